@@ -1,0 +1,10 @@
+mod Stacks
+mod Exact
+mod Nodes
+mod Accept
+mod Ends
+mod Slices
+mod Walks
+mod Loops
+mod More
+mod Legs

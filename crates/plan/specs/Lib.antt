@@ -1,0 +1,9 @@
+pub mod Limits
+pub mod Faults
+pub mod Kinds
+pub mod Trees
+pub mod Written
+pub mod Reading
+pub mod Laws
+pub mod Table
+pub mod Replies
