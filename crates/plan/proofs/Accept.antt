@@ -23,7 +23,7 @@ use Rattle.plan.specs.Trees.{Term, Leg, Plan, flat, stack, Stack, the-type}
 use Rattle.plan.specs.Written
 use Rattle.plan.specs.Written.{all-bytes, node-bytes, entry-bytes, table-bytes, nodes-bytes, type-byte, leg-bytes, map-byte, written, Run, built-in, listed, New, Entry-laid, with-entry, with-node, Node-laid, Before, none-before, with-leg, same-state, Below, Leg-laid, WellLaid}
 use Rattle.plan.specs.Reading.{Got, then-read, many, byte-if, read-type, entry-of, new-entry, read-entry, read-node, read-count, single, read-body, read-params, read-leg, between, read-table, read-map, read-legs, read-front, read-plan, to-the-end, read}
-use Rattle.plan.specs.Laws.{Bytes, Reading-law}
+use Rattle.plan.specs.Laws.{Bytes, Read-exactly}
 use Rattle.plan.proofs.Exact.{Exact, bytes-after, then-inv, then-on, ok-same, cond-ok, lone, byte-exact, many-sound, many-full}
 use Rattle.plan.proofs.Stacks.{stack-one, one-back-flat}
 use Rattle.plan.proofs.Ends.{some-nodes}
@@ -348,5 +348,5 @@ written-read p w =
     ∙ ap (λ l. to-the-end (length bs) (read-plan (length bs) l)) (sym (append-nil bs))
     ∙ ap (to-the-end (length bs)) (plan-full (length bs) p [] laid)
 
-pub law : Reading-law
-law = record { accepted = accepted; written-read = written-read }
+pub read-exactly : (bs : List ℕ) → Bytes bs → (p : Plan) → Read-exactly bs p
+read-exactly bs b p = record { accepted = accepted bs p b; spelled = λ w e. subst (λ x. read x ≡ Ok p) e (written-read p w) }

@@ -34,7 +34,7 @@ drop-nodes [] i h = absurd (omega arith)
 drop-nodes (n ∷ ns) zero h = refl
 drop-nodes (n ∷ ns) (suc i) h = drop-nodes ns i (omega arith)
 
-stack-of-all : (ts : List Term) → stack (flat-all ts) ≡ some ts
+pub stack-of-all : (ts : List Term) → stack (flat-all ts) ≡ some ts
 stack-of-all ts = ap stack (sym (append-nil (flat-all ts))) ∙ stack-all ts [] [] refl ∙ ap some (append-nil ts)
 
 pub some-nodes : (t : Term) → 1 ≤ node-size t

@@ -17,9 +17,9 @@ use Rattle.plan.specs.declared.TypeId.{TypeId}
 use Rattle.plan.specs.Kinds.{binders}
 use Rattle.plan.specs.Written.{with-node, binders-in, Before, with-leg}
 use Rattle.plan.specs.declared.Node.the-variants.{Unit as Unit′, Number, Name, Let, Take, Pair, Split, Left, Right, Case, Call, Add, Less}
-use Rattle.plan.specs.Table.{nodes-of, top, term-at, row-at, no-row, Standing, is-one, Closed}
+use Rattle.plan.specs.Table.{nodes-of, top, term-at, row-at, no-row, node-size, Standing, In-order, is-one, Closed}
 use Rattle.plan.specs.Reading.{Got, then-read, many, read-params, read-type, read-count, read-node, read-body, read-leg, single, read-front}
-use Rattle.plan.specs.Replies.{params-of, arities-of, leg-in, before-of, Leg-read, legs-in, Begun, Table-answer, Map-answer}
+use Rattle.plan.specs.Replies.{params-of, arities-of, leg-in, before-of, Leg-read, legs-in, Table-answer, Map-answer}
 use denote.Ref.{RefT}
 use Rattle.std.specs.declared.result.Result.{Result}
 use Rattle.plan.specs.declared.faults.ReadFault.{ReadFault}
@@ -101,18 +101,24 @@ module _ (all types : ℕ) (gs : List FlatLeg) (binder : ℕ) (before new : List
           ∙ ap (λ z. Ok (record { params = params-of g; result = g .result; first = z; body = t }, r4)) (sym eb)
           ∙ ap (λ z. Ok (record { params = params-of g; result = g .result; first = g .binder .index; body = z }, r4)) e
 
-pub legs-kept : (before after : List Row) (gs : List FlatLeg) → Begun before gs → ((i : ℕ) → i < length before → term-at after i ≡ term-at before i) → legs-in after gs ≡ legs-in before gs
-legs-kept before after [] b k = refl
-legs-kept before after (g ∷ gs) b k =
-    ap₂ (λ t l. record { params = params-of g; result = g .result; first = g .binder .index; body = t } ∷ l) (k (g .first) (b .0)) (legs-kept before after gs (b .2) k)
+pub legs-kept : (p : ℕ) (before after : List Row) (gs : List FlatLeg) → In-order p before gs → ((i : ℕ) → i < length before → term-at after i ≡ term-at before i) → legs-in after gs ≡ legs-in before gs
+legs-kept p before after [] b k = refl
+legs-kept p before after (g ∷ gs) b k =
+    ap₂ (λ t l. record { params = params-of g; result = g .result; first = g .binder .index; body = t } ∷ l) (k (g .first) (subst (λ x. x < length before) (sym (b .0)) (b .1)))
+      (legs-kept (p + node-size (term-at before p)) before after gs (b .3) k)
 
 pub legs-push : (ns : List Row) (gs : List FlatLeg) (g : FlatLeg) → legs-in ns (gs ++ (g ∷ [])) ≡ legs-in ns gs ++ (leg-in ns g ∷ [])
 legs-push ns [] g = refl
 legs-push ns (h ∷ gs) g = ap (λ l. leg-in ns h ∷ l) (legs-push ns gs g)
 
-pub begun-push : (before after : List Row) (gs : List FlatLeg) (g : FlatLeg) → length before ≤ length after → Begun before gs → g .first < length after → g .count ≤ 8 → Begun after (gs ++ (g ∷ []))
-begun-push before after [] g le b lt few = (lt, few, tt)
-begun-push before after (h ∷ gs) g le b lt few = let x = b .0 in (omega arith, b .1, begun-push before after gs g le (b .2) lt few)
+pub order-push : (p : ℕ) (before after : List Row) (gs : List FlatLeg) (g : FlatLeg) → ((i : ℕ) → i < length before → term-at after i ≡ term-at before i) → In-order p before gs
+    → g .first ≡ length before → g .count ≤ 8 → length before < length after → length after ≡ length before + node-size (term-at after (length before)) → In-order p after (gs ++ (g ∷ []))
+order-push p before after [] g k b first few more size =
+    (first ∙ sym b, subst (λ x. x < length after) (sym b) more, few, ap (λ x. x + node-size (term-at after x)) b ∙ sym size)
+order-push p before after (h ∷ gs) g k b first few more size =
+    let lt = b .1 in
+    (b .0, omega arith, b .2,
+     subst (λ t. In-order (p + node-size t) after (gs ++ (g ∷ []))) (sym (k p lt)) (order-push (p + node-size (term-at before p)) before after gs g k (b .3) first few more size))
 
 arities-push : (gs : List FlatLeg) (g : FlatLeg) → arities-of (gs ++ (g ∷ [])) ≡ arities-of gs ++ (g .count ∷ [])
 arities-push [] g = refl

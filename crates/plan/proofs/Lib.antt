@@ -1,10 +1,12 @@
-mod Stacks
+pub mod Stacks
 mod Exact
 mod Nodes
-mod Accept
-mod Ends
+pub mod Accept
+pub mod Ends
 mod Slices
 mod Walks
 mod Loops
 mod More
 mod Legs
+pub mod Kids
+mod Whole

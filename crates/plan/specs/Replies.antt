@@ -4,17 +4,21 @@ use mathlib.Core.List.{List, [], _∷_, _++_}
 use Prim.Native.Nat.{ℕ, _+_, _≤_, _<_}
 use lib.ListN.{length, take, drop}
 use denote.Ref.{RefT}
+use Rattle.std.specs.Of.Vec.{vec-items}
 use Rattle.std.specs.declared.result.Result.{Result}
 use Rattle.std.specs.declared.result.Result.the-variants.{Ok, Err}
 use Rattle.plan.specs.declared.faults.ReadFault.{ReadFault}
+use Rattle.plan.specs.declared.faults.PlanFault.{PlanFault}
+use Rattle.plan.specs.declared.faults.PlanFault.the-variants.{Read, Typing, Memory}
+use Rattle.plan.specs.declared.Plan.{Plan as FlatPlan}
 use Rattle.plan.specs.declared.Leg.{Leg as FlatLeg}
 use Rattle.plan.specs.declared.Row.{Row}
 use Rattle.plan.specs.declared.TypeId.{TypeId}
 use Rattle.plan.specs.Trees.{Term, Leg, Plan}
 use Rattle.plan.specs.declared.Type.{«Type» as Shape}
 use Rattle.plan.specs.Reading.{Got, Head, not-zero, many, read-node, read-table, read-params, read-leg, read-legs, read-front, read}
-use Rattle.plan.specs.Written.{with-node, binders-in, built-in, Before, with-leg}
-use Rattle.plan.specs.Table.{nodes-of, term-at, Standing}
+use Rattle.plan.specs.Written.{with-node, binders-in, built-in, Before, with-leg, WellLaid}
+use Rattle.plan.specs.Table.{nodes-of, term-at, Standing, Spells, In-order}
 
 -- The code's answer is the definition's, with what the slice holds for the slice, and the rest is no longer than the bytes.
 abbrev pub Answer : {X : Type 0} → List ℕ → Got X → Result (X × RefT (List ℕ)) ReadFault → Type 0
@@ -77,23 +81,35 @@ abbrev pub legs-in : List Row → List FlatLeg → List Leg
 legs-in ns [] = []
 legs-in ns (g ∷ gs) = leg-in ns g ∷ legs-in ns gs
 
--- each leg begins in the table
-abbrev pub Begun : List Row → List FlatLeg → Type 0
-Begun ns [] = Unit {0}
-Begun ns (g ∷ gs) = (g .first < length ns) × (g .count ≤ 8) × Begun ns gs
-
 abbrev pub Legs-answer : ℕ → ℕ → List ℕ → List FlatLeg → List Row → Result (RefT (List ℕ)) ReadFault → Type 0
-Legs-answer all types bs gs ns (Ok rest) = (read-legs all types bs ≡ Ok (legs-in ns gs, rest .now)) × Standing 0 ns × Begun ns gs × (length (rest .now) ≤ length bs)
+Legs-answer all types bs gs ns (Ok rest) = (read-legs all types bs ≡ Ok (legs-in ns gs, rest .now)) × Standing 0 ns × In-order 0 ns gs × (length (rest .now) ≤ length bs)
 Legs-answer all types bs gs ns (Err e) = read-legs all types bs ≡ Err e
 
 -- The plan that the three tables stand for.
 abbrev pub plan-in : List Shape → List FlatLeg → List Row → Plan
 plan-in ts gs ns = record { entries = drop 3 ts; legs = legs-in ns gs }
 
-abbrev pub Plan-answer : List ℕ → List Shape → List FlatLeg → List Row → Result (Unit {0}) ReadFault → Type 0
-Plan-answer bs ts gs ns (Ok u) = (read bs ≡ Ok (plan-in ts gs ns)) × Standing 0 ns × Begun ns gs
-Plan-answer bs ts gs ns (Err e) = read bs ≡ Err e
+abbrev pub Tables-answer : List ℕ → List Shape → List FlatLeg → List Row → Result (Unit {0}) ReadFault → Type 0
+Tables-answer bs ts gs ns (Ok u) = (read bs ≡ Ok (plan-in ts gs ns)) × Standing 0 ns × In-order 0 ns gs
+Tables-answer bs ts gs ns (Err e) = read bs ≡ Err e
 
 abbrev pub Map-answer : ℕ → List ℕ → List Shape → Result (RefT (List ℕ)) ReadFault → Type 0
 Map-answer all bs after (Ok rest) = (es : List Shape) × (after ≡ built-in ++ es) × (read-front all bs ≡ Ok (es, rest .now)) × (length (rest .now) ≤ length bs)
 Map-answer all bs after (Err e) = read-front all bs ≡ Err e
+
+-- The plan of trees that a read plan stands for.
+abbrev pub tree : FlatPlan → Plan
+tree p = plan-in (vec-items (p .types)) (vec-items (p .legs)) (vec-items (p .nodes))
+
+-- What holds of the tables of a read plan.
+pub record Sound (p : FlatPlan) : Type 0 where
+  pub laid : WellLaid (tree p)
+  pub spells : Spells (vec-items (p .nodes))
+  pub in-order : In-order 0 (vec-items (p .nodes)) (vec-items (p .legs))
+
+-- The plan read, or the first fault. Want of memory says nothing about the bytes, and reading finds no fault of types.
+abbrev pub Read-answer : List ℕ → Result FlatPlan PlanFault → Type 0
+Read-answer bs (Ok p) = (read bs ≡ Ok (tree p)) × Sound p
+Read-answer bs (Err (Read e)) = read bs ≡ Err e
+Read-answer bs (Err (Typing e)) = ⊥
+Read-answer bs (Err Memory) = Unit {0}

@@ -10,7 +10,9 @@ use Rattle.std.specs.declared.option.Option.the-variants.{Some, None}
 use Rattle.plan.specs.declared.Node.{Node}
 use Rattle.plan.specs.declared.Node.the-variants.{Unit as Unit′, Number, Name, Let, Take, Pair, Split, Left, Right, Case, Call, Add, Less}
 use Rattle.plan.specs.declared.Row.{Row}
-use Rattle.plan.specs.Trees.{Term, t-unit, flat, stack, Stack}
+use Rattle.plan.specs.declared.Leg.{Leg as FlatLeg}
+use Rattle.plan.specs.Limits.{max-params}
+use Rattle.plan.specs.Trees.{Term, t-unit, head, kids, flat, stack, Stack}
 
 abbrev pub nodes-of : List Row → List Node
 nodes-of [] = []
@@ -52,6 +54,20 @@ Whole from ns = (ts : List Term) × (stack (drop from (nodes-of ns)) ≡ some ts
 pub record Standing (from : ℕ) (ns : List Row) : Type 0 where
   pub whole : Whole from ns
   pub ended : Ended from ns
+
+-- Expressions stand one behind the other from a place on, each up to where its node says that it ends.
+abbrev pub Stand : List Row → ℕ → List Term → Type 0
+Stand ns p [] = Unit {0}
+Stand ns p (t ∷ ts) = (p < length ns) × (term-at ns p ≡ t) × (row-at ns p .end ≡ p + node-size t) × Stand ns (row-at ns p .end) ts
+
+-- The table spells its expressions: each node is the head of the one that begins there, and the kids of that stand behind it.
+abbrev pub Spells : List Row → Type 0
+Spells ns = (i : ℕ) → i < length ns → (row-at ns i .node ≡ head (term-at ns i)) × Stand ns (i + 1) (kids (term-at ns i))
+
+-- The bodies of the legs stand one behind the other from a place on, to the table's end.
+abbrev pub In-order : ℕ → List Row → List FlatLeg → Type 0
+In-order p ns [] = p ≡ length ns
+In-order p ns (g ∷ gs) = (g .first ≡ p) × (p < length ns) × (g .count ≤ max-params) × In-order (p + node-size (term-at ns p)) ns gs
 
 abbrev pub is-one : Stack → Bool
 is-one none = false

@@ -79,6 +79,41 @@ abbrev mutual
   flats t-none = []
   flats (t-more a ts) = flat a ++ flats ts
 
+-- The node of an expression, and its kids in order.
+abbrev pub head : Term → Node
+head t-unit = Unit′
+head (t-number n) = Number n
+head (t-name l) = Name (the-level l)
+head (t-let k a b) = Let (the-binder k)
+head (t-take k a b) = Take (the-binder k)
+head (t-pair a b) = Pair
+head (t-split k a b) = Split (the-binder k)
+head (t-left y a) = Left y
+head (t-right y a) = Right y
+head (t-case k a b c) = Case (the-binder k)
+head (t-call l ts) = Call (the-leg l) (how-many ts)
+head (t-add a b) = Add
+head (t-less a b) = Less
+
+abbrev pub arguments : Terms → List Term
+arguments t-none = []
+arguments (t-more a ts) = a ∷ arguments ts
+
+abbrev pub kids : Term → List Term
+kids t-unit = []
+kids (t-number n) = []
+kids (t-name l) = []
+kids (t-let k a b) = a ∷ b ∷ []
+kids (t-take k a b) = a ∷ b ∷ []
+kids (t-pair a b) = a ∷ b ∷ []
+kids (t-split k a b) = a ∷ b ∷ []
+kids (t-left y a) = a ∷ []
+kids (t-right y a) = a ∷ []
+kids (t-case k a b c) = a ∷ b ∷ c ∷ []
+kids (t-call l ts) = arguments ts
+kids (t-add a b) = a ∷ b ∷ []
+kids (t-less a b) = a ∷ b ∷ []
+
 -- The other way: nodes read from the last to the first, with the expressions begun behind a node in a list; none if one lacks a kid.
 abbrev pub Stack : Type 0
 Stack = Option (List Term)

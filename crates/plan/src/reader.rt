@@ -9,16 +9,22 @@ ghost use Rattle.plan.specs.Written.{built-in};
 ghost use Rattle.plan.specs.declared.faults.ReadFault.the-variants.{Limit};
 ghost use Rattle.plan.specs.Reading.{read-type, read-entry, read-head, node-of, read-node, read-count, byte-if, between};
 ghost use Rattle.plan.specs.Table.{Standing, Closed};
-ghost use Rattle.plan.specs.Replies.{Answer, Value-answer, Head-answer, arities-of, Nodes-answer, Table-answer, Params-answer, Leg-answer, Legs-answer, Map-answer, Plan-answer};
+ghost use Rattle.plan.specs.Laws.{Read-exactly};
+ghost use Rattle.plan.specs.Trees.{Plan as Tree};
+ghost use Rattle.plan.specs.Replies.{Answer, Value-answer, Head-answer, arities-of, Nodes-answer, Table-answer, Params-answer, Leg-answer, Legs-answer, Map-answer, Tables-answer, Read-answer};
 use crate::Binder;
 use crate::Leg;
 use crate::LegId;
 use crate::Level;
+use crate::Plan;
 use crate::Row;
 use crate::Node;
 use crate::Type;
 use crate::TypeId;
+use crate::faults::NoMemoryIn;
+use crate::faults::PlanFault;
 use crate::faults::ReadFault;
+use crate::faults::ReadFaultIn;
 use crate::kinds::Field;
 use crate::kinds::binders_of;
 use crate::kinds::shape_of;
@@ -27,8 +33,10 @@ use crate::limits::MAX_ENTRIES;
 use crate::limits::MAX_LEGS;
 use crate::limits::MAX_NODES;
 use crate::limits::MAX_PARAMS;
+use crate::limits::MAX_TYPES;
 use crate::table::close;
 use crate::types::is_listed;
+use std::alloc::Global;
 
 // A type number below `types`.
 fn read_type<'a>(all: usize, types: usize, bytes: &'a [u8]) -> Result<(TypeId, &'a [u8]), ReadFault>
@@ -367,7 +375,7 @@ fn read_map<'a>(all: usize, types: &mut Vec<Type>, bytes: &'a [u8]) -> Result<&'
 }
 
 // Reads a plan into three empty lists with room for 32 types, 16 legs and 256 nodes.
-pub fn read_into(
+fn read_into(
     bytes: &[u8],
     types: &mut Vec<Type>,
     legs: &mut Vec<Leg>,
@@ -376,7 +384,7 @@ pub fn read_into(
     requires types_room { ⌜ 32 ≤ vec-cap (now types) ⌝ ∗ ⌜ vec-items (now types) ≡ [] ⌝ ∗ ⌜ vec-len (now types) ≡ 0 ⌝ }
     requires legs_room { ⌜ 16 ≤ vec-cap (now legs) ⌝ ∗ ⌜ vec-items (now legs) ≡ [] ⌝ ∗ ⌜ vec-len (now legs) ≡ 0 ⌝ }
     requires nodes_room { ⌜ 256 ≤ vec-cap (now nodes) ⌝ ∗ ⌜ vec-items (now nodes) ≡ [] ⌝ ∗ ⌜ vec-len (now nodes) ≡ 0 ⌝ }
-    ensures { λ r. ⌜ Plan-answer (now (bytes .entry)) (vec-items (now (types .exit))) (vec-items (now (legs .exit))) (vec-items (now (nodes .exit))) r ⌝ }
+    ensures { λ r. ⌜ Tables-answer (now (bytes .entry)) (vec-items (now (types .exit))) (vec-items (now (legs .exit))) (vec-items (now (nodes .exit))) r ⌝ }
 {
     let all = bytes.len();
     if all > MAX_BYTES {
@@ -388,4 +396,20 @@ pub fn read_into(
         return Err(ReadFault::Tail(all - rest.len()));
     }
     Ok(())
+}
+
+// The plan that the bytes hold, or the first fault, front to back.
+pub fn read(heap: Global, bytes: &[u8]) -> Result<Plan, PlanFault>
+    ensures answer { λ r. ⌜ Read-answer (now (bytes .entry)) r ⌝ }
+    ensures exactly { λ _. ⌜ ((p : Tree) → Read-exactly (now (bytes .entry)) p) ⌝ }
+{
+    let mut types: Vec<Type> = Vec::with_capacity(heap, MAX_TYPES)?;
+    let mut legs: Vec<Leg> = Vec::with_capacity(heap, MAX_LEGS as usize)?;
+    let mut nodes: Vec<Row> = Vec::with_capacity(heap, MAX_NODES)?;
+    read_into(bytes, &mut types, &mut legs, &mut nodes)?;
+    Ok(Plan {
+        types,
+        legs,
+        nodes,
+    })
 }

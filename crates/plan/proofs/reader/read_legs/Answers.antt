@@ -11,12 +11,12 @@ use Rattle.std.specs.Of.Vec.{vec-items, vec-len, vec-cap}
 use Rattle.plan.specs.declared.Leg.{Leg as FlatLeg}
 use Rattle.plan.specs.Trees.{flat}
 use Rattle.plan.specs.Written.{with-leg, none-before}
-use Rattle.plan.specs.Table.{term-at}
+use Rattle.plan.specs.Table.{term-at, node-size, In-order}
 use Rattle.plan.specs.Reading.{then-read, many, read-leg}
-use Rattle.plan.specs.Replies.{params-of, leg-in, legs-in, before-of, Leg-read, Begun}
+use Rattle.plan.specs.Replies.{params-of, leg-in, legs-in, before-of, Leg-read}
 use Rattle.plan.proofs.Loops.{Left, left-next, left-fails}
 use Rattle.plan.proofs.Ends.{some-nodes}
-use Rattle.plan.proofs.Legs.{legs-kept, legs-push, begun-push, state-next, binders-bound}
+use Rattle.plan.proofs.Legs.{legs-kept, legs-push, order-push, state-next, binders-bound}
 use Rattle.plan.proofs.reader.read_legs.Needs as need
 
 pub returns-in-Break-leg : need.returns-in-Break-leg
@@ -43,7 +43,7 @@ loop-i-again c =
     let L = subst (λ x. Leg-read all types x (c .loop-i .binder) rest before after g next then) (c .as-slice .ensures .value) (c .in-Continue-leg .ensures tt .answer) in
     let items = c .push-reserved .ensures .items in
     let state = state-next gs (c .loop-i .binder) before after g next (L .counted) (L .next-is) (L .longer) in
-    let old : legs-in after gs ≡ legs-in before gs = legs-kept before after gs (v .8) (L .kept) in
+    let old : legs-in after gs ≡ legs-in before gs = legs-kept 0 before after gs (v .8) (L .kept) in
     let left = left-next with-leg (read-leg all types) (c .in-Continue-count .count) none-before (c .in-Continue-count .after-count .now) (c .loop-i .i) (before-of gs (c .loop-i .binder) before) rest (legs-in before gs) (leg-in after g) then (c .loop-i-test .taken) (v .9) (L .is) in
     let body = leg-in after g .body in
     let size = some-nodes body in
@@ -65,7 +65,7 @@ loop-i-again c =
       c .in-Continue-leg .ensures tt .len,
       omega arith,
       L .stands,
-      subst (Begun after) (sym items) (begun-push before after gs g (omega arith) (v .8) (omega arith) (L .few)),
+      subst (In-order 0 after) (sym items) (order-push 0 before after gs g (L .kept) (v .8) first-is few (omega arith) (longer ∙ ap (λ x. length before + node-size (term-at after x)) first-is)),
       subst (λ x. Left with-leg (read-leg all types) (c .in-Continue-count .count) none-before (c .in-Continue-count .after-count .now) (c .loop-i .i + 1) (before-of x next after) then (legs-in after x)) (sym items)
         (subst (Left with-leg (read-leg all types) (c .in-Continue-count .count) none-before (c .in-Continue-count .after-count .now) (c .loop-i .i + 1) (before-of (gs ++ (g ∷ [])) next after) then) (ap (λ l. l ++ (leg-in after g ∷ [])) (sym old) ∙ sym (legs-push after gs g))
           (subst (λ s. Left with-leg (read-leg all types) (c .in-Continue-count .count) none-before (c .in-Continue-count .after-count .now) (c .loop-i .i + 1) s then (legs-in before gs ++ (leg-in after g ∷ []))) state left)),
