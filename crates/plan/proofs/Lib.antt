@@ -3,7 +3,7 @@ mod Exact
 mod Nodes
 pub mod Accept
 pub mod Ends
-mod Slices
+pub mod Slices
 mod Walks
 mod Loops
 mod More

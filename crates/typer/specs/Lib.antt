@@ -1,1 +1,3 @@
 pub mod Typing
+pub mod Walk
+pub mod Levels
