@@ -1,2 +1,4 @@
 mod Types
 mod Scopes
+mod Views
+mod Walking

@@ -1,3 +1,4 @@
 pub mod Typing
 pub mod Walk
 pub mod Levels
+pub mod Depths

@@ -2,8 +2,7 @@
 ghost use mathlib.Core.Path.{_≡_};
 ghost use mathlib.Core.List.{_∷_, [], _++_};
 ghost use Prim.Native.Nat.{ℕ, _+_, _<_, _≤_};
-ghost use lib.ListN.{getD};
-ghost use Rattle.plan.specs.Trees.{the-type};
+ghost use lib.ListN.{length};
 ghost use Rattle.typer.specs.Walk.{kids-known, kid-at};
 use plan::TypeId;
 
@@ -16,6 +15,7 @@ pub struct KidTypes {
 pub fn no_kids() -> KidTypes
     ensures none { λ r. ⌜ kids-known r ≡ [] ⌝ }
     ensures len { λ r. ⌜ r .len ≡ 0 ⌝ }
+    ensures known { λ r. ⌜ length (kids-known r) ≡ r .len ⌝ }
 {
     KidTypes {
         types: [TypeId { index: 0 }; 8],
@@ -29,6 +29,7 @@ impl KidTypes {
         requires { ⌜ self .len < 8 ⌝ }
         ensures kids { λ r. ⌜ kids-known r ≡ kids-known self ++ (y ∷ []) ⌝ }
         ensures len { λ r. ⌜ r .len ≡ self .len + 1 ⌝ }
+        ensures known { λ r. ⌜ length (kids-known r) ≡ r .len ⌝ }
     {
         let mut types = self.types;
         types[self.len] = y;

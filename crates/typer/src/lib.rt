@@ -4,6 +4,7 @@ ghost use Rattle.typer.specs.Typing.{Typing-law};
 pub mod kids;
 pub mod rules;
 pub mod scope;
+pub mod walk;
 
 // The typer's definition accepts exactly the plans that have types.
 pub fn typing_stands() -> u8
