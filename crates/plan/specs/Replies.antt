@@ -90,7 +90,7 @@ abbrev pub plan-in : List Shape → List FlatLeg → List Row → Plan
 plan-in ts gs ns = record { entries = drop 3 ts; legs = legs-in ns gs }
 
 abbrev pub Tables-answer : List ℕ → List Shape → List FlatLeg → List Row → Result (Unit {0}) ReadFault → Type 0
-Tables-answer bs ts gs ns (Ok u) = (read bs ≡ Ok (plan-in ts gs ns)) × Standing 0 ns × In-order 0 ns gs
+Tables-answer bs ts gs ns (Ok u) = (read bs ≡ Ok (plan-in ts gs ns)) × Standing 0 ns × In-order 0 ns gs × (ts ≡ built-in ++ drop 3 ts)
 Tables-answer bs ts gs ns (Err e) = read bs ≡ Err e
 
 abbrev pub Map-answer : ℕ → List ℕ → List Shape → Result (RefT (List ℕ)) ReadFault → Type 0
@@ -104,6 +104,7 @@ tree p = plan-in (vec-items (p .types)) (vec-items (p .legs)) (vec-items (p .nod
 -- What holds of the tables of a read plan.
 pub record Sound (p : FlatPlan) : Type 0 where
   pub laid : WellLaid (tree p)
+  pub built : vec-items (p .types) ≡ built-in ++ drop 3 (vec-items (p .types))
   pub spells : Spells (vec-items (p .nodes))
   pub in-order : In-order 0 (vec-items (p .nodes)) (vec-items (p .legs))
 

@@ -2,3 +2,4 @@ mod Types
 mod Scopes
 mod Views
 mod Walking
+mod Legs

@@ -5,7 +5,7 @@ use Rattle.plan.specs.declared.Node.{Node}
 use Rattle.plan.specs.declared.Node.the-variants.{Unit as Unit′, Number, Name, Let, Take, Pair, Split, Left, Right, Case, Call, Add, Less}
 use Rattle.plan.specs.Kinds.{kids-of}
 use Rattle.plan.specs.Limits.{max-params}
-use Rattle.plan.specs.Trees.{Term, flat}
+use Rattle.plan.specs.Trees.{Term, Leg, flat}
 use Rattle.typer.specs.Levels.{levels}
 
 -- behind the first kid
@@ -36,3 +36,8 @@ kid-levels d o k (a ∷ ts) = levels (kid-depth d o k) a ++ kid-levels d o (suc 
 abbrev pub Few-kids : List Node → Type 0
 Few-kids [] = Unit {0}
 Few-kids (o ∷ os) = (kids-of o ≤ max-params) × Few-kids os
+
+-- That holds of every leg's body.
+abbrev pub Bodies-few : List Leg → Type 0
+Bodies-few [] = Unit {0}
+Bodies-few (g ∷ gs) = Few-kids (flat (g .body)) × Bodies-few gs

@@ -1,5 +1,5 @@
 -- The typer's walk, one node at a time: the scope of each kid, and the node's type from its kids' types. Assumes nothing.
-use mathlib.Core.Bool.{Bool, true, false, cond}
+use mathlib.Core.Bool.{Bool, true, false, cond, _&&_}
 use mathlib.Core.List.{List, [], _∷_, _++_}
 use mathlib.Core.Path.{_≡_}
 use Prim.Native.Nat.{ℕ, zero, suc, _+_, _≤_, _<_}
@@ -21,7 +21,7 @@ use Rattle.plan.specs.Trees.{Term, the-binder}
 use Rattle.plan.specs.Replies.{params-of}
 use Rattle.typer.specs.declared.scope.Scope.{Scope}
 use Rattle.typer.specs.declared.kids.KidTypes.{KidTypes}
-use Rattle.typer.specs.Typing.{Sig, World, Reached, then-type, there-at, named-at, if-room, if-same, pair-parts, either-parts, call-result, check, found, number-of, size, unit-type, number-type, truth-type}
+use Rattle.typer.specs.Typing.{Sig, World, Reached, then-type, there-at, named-at, if-room, if-same, pair-parts, either-parts, call-result, check, found, number-of, size, unit-type, number-type, truth-type, numbers, same-id}
 
 abbrev pub down : ℕ → List TypeId → List TypeId
 down zero ys = []
@@ -43,6 +43,10 @@ no-leg = record { params = []; count = 0; result = unit-type; first = 0; binder 
 abbrev pub sigs-of : List FlatLeg → List Sig
 sigs-of [] = []
 sigs-of (g ∷ gs) = record { params = params-of g; result = g .result } ∷ sigs-of gs
+
+-- what main has to be
+abbrev pub deals-in-numbers : List TypeId → TypeId → Bool
+deals-in-numbers ps y = numbers ps && same-id y number-type
 
 -- no leg has more parameters than there may be
 abbrev pub Each-few : List FlatLeg → Type 0

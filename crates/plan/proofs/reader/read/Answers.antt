@@ -36,4 +36,4 @@ returns c =
     let bs = c .args .bytes .now in
     let bytes : Bytes bs = bytes-are bs (λ i. omega (arith, c .typed .bytes i)) in
     let t = c .in-Continue-read-into .ensures tt in
-    record { answer = reads bs bytes (record { types = c .read-into .last .types; legs = c .read-into .last .legs; nodes = c .read-into .last .nodes }) (t .0) (t .1) (t .2); exactly = read-exactly bs bytes }
+    record { answer = reads bs bytes (record { types = c .read-into .last .types; legs = c .read-into .last .legs; nodes = c .read-into .last .nodes }) (t .0) (t .1) (t .2) (t .3); exactly = read-exactly bs bytes }
