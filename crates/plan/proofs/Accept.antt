@@ -33,12 +33,12 @@ pub type-exact : (all types : ℕ) → Exact (Below types) type-byte (read-type 
 type-exact all types =
     let b = byte-exact (λ t. ltb t types) «Ref» all in record {
       sound = λ bs x rest y e. (
-        let i = then-inv (byte-if (λ t. ltb t types) «Ref» all bs) _ (x, rest) e in
-        let s = b .sound bs (i .0) (i .1) y (i .2) in
-        let q = ok-same (the-type (i .0), i .1) (x, rest) (i .3) in
-        let n : i .0 ≡ x .index = ap (λ p. p .0 .index) q in
-        let r : i .1 ≡ rest = ap (λ p. p .1) q in
-        (s .0 ∙ ap₂ (λ h t. h ∷ t) n r, subst (λ t. t < types) n (ltb-true (i .0) types (s .1))));
+          let i = then-inv (byte-if (λ t. ltb t types) «Ref» all bs) _ (x, rest) e in
+          let s = b .sound bs (i .0) (i .1) y (i .2) in
+          let q = ok-same (the-type (i .0), i .1) (x, rest) (i .3) in
+          let n : i .0 ≡ x .index = ap (λ p. p .0 .index) q in
+          let r : i .1 ≡ rest = ap (λ p. p .1) q in
+          (s .0 ∙ ap₂ (λ h t. h ∷ t) n r, subst (λ t. t < types) n (ltb-true (i .0) types (s .1))));
       full = λ x rest lt. then-on (byte-if (λ t. ltb t types) «Ref» all (x .index ∷ rest)) _ (x .index) rest (b .full (x .index) rest (lt-ltb (x .index) types lt));
     }
 
@@ -58,8 +58,9 @@ module _ (all : ℕ) (ts : List Shape) where
       → (tag ∷ a .index ∷ b .index ∷ [] ≡ entry-bytes (entry-of tag a b)) × Entry-laid ts (entry-of tag a b)
   entry-at tag a b t la lb n =
       elim (or-cases (eqb tag 1) (eqb tag 2) t) [
-        inl h ↦ subst (λ x. listed (entry-of x a b) ts ≡ false → (x ∷ a .index ∷ b .index ∷ [] ≡ entry-bytes (entry-of x a b)) × Entry-laid ts (entry-of x a b)) (sym (eqb-true tag 1 h)) (λ n. (refl, (la, lb, n))) n
-      | inr h ↦ subst (λ x. listed (entry-of x a b) ts ≡ false → (x ∷ a .index ∷ b .index ∷ [] ≡ entry-bytes (entry-of x a b)) × Entry-laid ts (entry-of x a b)) (sym (eqb-true tag 2 h)) (λ n. (refl, (la, lb, n))) n ]
+        | inl h ↦ subst (λ x. listed (entry-of x a b) ts ≡ false → (x ∷ a .index ∷ b .index ∷ [] ≡ entry-bytes (entry-of x a b)) × Entry-laid ts (entry-of x a b)) (sym (eqb-true tag 1 h)) (λ n. (refl, (la, lb, n))) n
+        | inr h ↦ subst (λ x. listed (entry-of x a b) ts ≡ false → (x ∷ a .index ∷ b .index ∷ [] ≡ entry-bytes (entry-of x a b)) × Entry-laid ts (entry-of x a b)) (sym (eqb-true tag 2 h)) (λ n. (refl, (la, lb, n))) n
+      ]
 
   entry-sound : (bs : List ℕ) (q : Shape) (rest : List ℕ) → Bytes bs → read-entry all ts bs ≡ Ok (q, rest) → (bs ≡ entry-bytes q ++ rest) × Entry-laid ts q
   entry-sound bs q rest y e =
@@ -74,7 +75,7 @@ module _ (all : ℕ) (ts : List Shape) where
       let n = new-inv (all - length bs) (entry-of (i .0) (j .0) (l .0)) q (l .1) rest (l .3) in
       let g = entry-at (i .0) (j .0) (l .0) (bi .1) (bj .1) (bl .1) (n .0) in
       subst (λ x. (bs ≡ entry-bytes x ++ rest) × Entry-laid ts x) (n .1)
-        (bi .0 ∙ ap (λ r. i .0 ∷ r) (bj .0 ∙ ap (λ r. j .0 .index ∷ r) (bl .0 ∙ ap (λ r. l .0 .index ∷ r) (n .2))) ∙ ap (λ h. h ++ rest) (g .0), g .1)
+      (bi .0 ∙ ap (λ r. i .0 ∷ r) (bj .0 ∙ ap (λ r. j .0 .index ∷ r) (bl .0 ∙ ap (λ r. l .0 .index ∷ r) (n .2))) ∙ ap (λ h. h ++ rest) (g .0), g .1)
 
   three-full : (tag : ℕ) (a b : TypeId) (q : Shape) (rest : List ℕ) → (eqb tag 1 || eqb tag 2) ≡ true → entry-of tag a b ≡ q → New ts q a b → read-entry all ts (tag ∷ a .index ∷ b .index ∷ rest) ≡ Ok (q, rest)
   three-full tag a b q rest t e n =
@@ -112,6 +113,7 @@ module _ {X S : Type 0} (next : S → X → S) (ok : S → X → Type 0) (write 
           let bi = byte-exact test Limit all .sound bs (i .0) (i .1) y (i .2) in
           let m = many-sound next ok write P each (i .0) s (i .1) xs rest (bytes-after (i .0 ∷ []) (i .1) (subst Bytes (bi .0) y)) (i .3) in
           (bi .0 ∙ ap₂ (λ h r. h ∷ r) (sym (m .2)) (m .0), (subst (λ n. test n ≡ true) (sym (m .2)) (bi .1), m .1))
+
       full : (xs : List X) (rest : List ℕ) → Counted next ok test s xs → counted next P test all s (counted-bytes write xs ++ rest) ≡ Ok (xs, rest)
       full xs rest c =
           then-on (byte-if test Limit all (length xs ∷ (all-bytes write xs ++ rest))) _ (length xs) (all-bytes write xs ++ rest) (byte-exact test Limit all .full (length xs) _ (c .0))
@@ -142,6 +144,7 @@ count-exact all used = record { sound = sound; full = full }
         let eh : h ≡ n / 0x100 = omega arith in
         let el : l ≡ n % 0x100 = omega arith in
         ((let q : h ∷ l ∷ bs ≡ (n / 0x100) ∷ (n % 0x100) ∷ rest = cc in q), subst (λ x. in-count used x ≡ true) en (i .0))
+
     full : (n : ℕ) (rest : List ℕ) → in-count used n ≡ true → read-count all used (two-bytes n ++ rest) ≡ Ok (n, rest)
     full n rest t =
         let e : n / 0x100 * 0x100 + n % 0x100 ≡ n = omega arith in
@@ -170,18 +173,20 @@ body-exact all types s k = record { sound = sound; full = full }
         let os : j .0 ≡ flat t = one-back-flat (j .0) t (g .0) in
         let n : i .0 ≡ length (flat t) = sym (m .2) ∙ ap length os in
         let fits = and-parts (leb 1 (i .0)) (leb (s .used + i .0) max-nodes) (ci .1) in
-        let few = leb-true (s .used + i .0) max-nodes (fits .1) in
-        (ci .0 ∙ ap₂ (λ c r. two-bytes c ++ r) n (m .0 ∙ ap₂ (λ o r. all-bytes node-bytes o ++ r) os (g .1)),
-         record { few-nodes = omega arith; nodes-laid = subst (Run with-node (Node-laid types (s .arities)) k) os (m .1) })
+        let few = leb-true (s .used + i .0) max-nodes (fits .1) in (
+          ci .0 ∙ ap₂ (λ c r. two-bytes c ++ r) n (m .0 ∙ ap₂ (λ o r. all-bytes node-bytes o ++ r) os (g .1)),
+          record { few-nodes = omega arith; nodes-laid = subst (Run with-node (Node-laid types (s .arities)) k) os (m .1) },
+        )
+
     full : (t : Term) (rest : List ℕ) → Body-laid types (s .used) (s .arities) k t → read-body all types s k (body-bytes t ++ rest) ≡ Ok (t, rest)
     full t rest l =
         let n = length (flat t) in
         let few = l .few-nodes in
         let pos = some-nodes t in
         then-on (read-count all (s .used) (body-bytes t ++ rest)) _ n (all-bytes node-bytes (flat t) ++ rest)
-          (count-exact all (s .used) .full n _ (and-from (leb 1 n) (leb (s .used + n) max-nodes) (le-leb 1 n pos) (le-leb (s .used + n) max-nodes few)))
+        (count-exact all (s .used) .full n _ (and-from (leb 1 n) (leb (s .used + n) max-nodes) (le-leb 1 n pos) (le-leb (s .used + n) max-nodes few)))
         ∙ then-on (many with-node (read-node all types (s .arities)) n k (all-bytes node-bytes (flat t) ++ rest)) _ (flat t) rest
-          (many-full with-node (Node-laid types (s .arities)) node-bytes (read-node all types (s .arities)) (node-exact all types (s .arities)) (flat t) k rest (l .nodes-laid))
+        (many-full with-node (Node-laid types (s .arities)) node-bytes (read-node all types (s .arities)) (node-exact all types (s .arities)) (flat t) k rest (l .nodes-laid))
         ∙ ap (λ x. single (all - length (body-bytes t ++ rest)) x rest) (stack-one t)
 
 -- legs
@@ -227,10 +232,10 @@ module _ (all types : ℕ) where
   leg-full s g rest l =
       ap (read-leg all types s) (sym (leg-spelled (g .params) (g .result) (g .body) rest))
       ∙ then-on (read-params all types (counted-bytes type-byte (g .params) ++ (g .result .index ∷ (body-bytes (g .body) ++ rest)))) _ (g .params) (g .result .index ∷ (body-bytes (g .body) ++ rest))
-        (params-exact .full (g .params) _ (and-from (leb 0 (length (g .params))) (leb (length (g .params)) max-params) (le-leb 0 (length (g .params)) (omega arith)) (le-leb (length (g .params)) max-params (l .few-params)), l .params-there))
+      (params-exact .full (g .params) _ (and-from (leb 0 (length (g .params))) (leb (length (g .params)) max-params) (le-leb 0 (length (g .params)) (omega arith)) (le-leb (length (g .params)) max-params (l .few-params)), l .params-there))
       ∙ then-on (read-type all types (g .result .index ∷ (body-bytes (g .body) ++ rest))) _ (g .result) (body-bytes (g .body) ++ rest) (type-exact all types .full (g .result) _ (l .result-there))
       ∙ then-on (read-body all types s (s .next + length (g .params)) (body-bytes (g .body) ++ rest)) _ (g .body) rest
-        (body-exact all types s (s .next + length (g .params)) .full (g .body) rest (record { few-nodes = l .few-nodes; nodes-laid = l .nodes-laid }))
+      (body-exact all types s (s .next + length (g .params)) .full (g .body) rest (record { few-nodes = l .few-nodes; nodes-laid = l .nodes-laid }))
       ∙ ap (λ f. Ok (record { params = g .params; result = g .result; first = f; body = g .body }, rest)) (sym (l .numbered))
 
   pub leg-exact : (s : Before) → Exact (Leg-laid types s) leg-bytes (read-leg all types s)
@@ -261,7 +266,7 @@ module _ (all : ℕ) where
           let i = ok-same ([], bs) (es, rest) e in
           let n : [] ≡ es = ap (λ p. p .0) i in
           subst (λ l. (m ≡ map-byte l) × (bs ≡ table-bytes l ++ rest) × Table-laid l) n
-            (eqb-true m 4 q, ap (λ p. p .1) i, record { few-entries = omega arith; entries-laid = tt })
+          (eqb-true m 4 q, ap (λ p. p .1) i, record { few-entries = omega arith; entries-laid = tt })
       go false q t e =
           let i = table-exact .sound bs es rest b e in
           let f = and-parts (leb 1 (length es)) (leb (length es) max-entries) (i .1 .0) in
@@ -306,8 +311,8 @@ module _ (all : ℕ) where
       let m = map-full es (counted-bytes leg-bytes (p .legs) ++ rest) (l .table) in
       ap (read-plan all) (sym (plan-spelled es (p .legs) rest))
       ∙ then-on (read-front all (map-byte es ∷ (table-bytes es ++ (counted-bytes leg-bytes (p .legs) ++ rest)))) _ es (counted-bytes leg-bytes (p .legs) ++ rest)
-        (then-on (byte-if (λ m. eqb m 4 || eqb m 6) Bits all (map-byte es ∷ (table-bytes es ++ (counted-bytes leg-bytes (p .legs) ++ rest)))) _ (map-byte es) (table-bytes es ++ (counted-bytes leg-bytes (p .legs) ++ rest))
-          (byte-exact (λ m. eqb m 4 || eqb m 6) Bits all .full (map-byte es) _ (m .0)) ∙ m .1)
+      (then-on (byte-if (λ m. eqb m 4 || eqb m 6) Bits all (map-byte es ∷ (table-bytes es ++ (counted-bytes leg-bytes (p .legs) ++ rest)))) _ (map-byte es) (table-bytes es ++ (counted-bytes leg-bytes (p .legs) ++ rest))
+      (byte-exact (λ m. eqb m 4 || eqb m 6) Bits all .full (map-byte es) _ (m .0)) ∙ m .1)
       ∙ then-on (read-legs all (3 + length es) (counted-bytes leg-bytes (p .legs) ++ rest)) _ (p .legs) rest (legs-exact all (3 + length es) .full (p .legs) rest (l .legs))
 
 end-inv : (all : ℕ) (g : Got Plan) (p : Plan) → to-the-end all g ≡ Ok p → g ≡ Ok (p, [])
@@ -326,15 +331,17 @@ accepted bs p b e = go (leb (length bs) max-bytes) refl e
         let t = s .1 .table in
         let g = s .1 .legs in
         let f = and-parts (leb 1 (length (p .legs))) (leb (length (p .legs)) max-legs) (g .0) in
-        let short = leb-true (length bs) max-bytes q in
-        (record {
-          few-entries = t .few-entries;
-          entries-laid = t .entries-laid;
-          some-legs = leb-true 1 (length (p .legs)) (f .0);
-          few-legs = leb-true (length (p .legs)) max-legs (f .1);
-          legs-laid = g .1;
-          few-bytes = subst (λ l. length l ≤ max-bytes) same short;
-        }, sym same)
+        let short = leb-true (length bs) max-bytes q in (
+          record {
+            few-entries = t .few-entries;
+            entries-laid = t .entries-laid;
+            some-legs = leb-true 1 (length (p .legs)) (f .0);
+            few-legs = leb-true (length (p .legs)) max-legs (f .1);
+            legs-laid = g .1;
+            few-bytes = subst (λ l. length l ≤ max-bytes) same short;
+          },
+          sym same,
+        )
 
 written-read : (p : Plan) → WellLaid p → read (written p) ≡ Ok p
 written-read p w =

@@ -99,9 +99,11 @@ skip-next ns at count place left le lt pos ended h ts e =
     let g = h ts e in
     let w = here ns place (g .0) lt (g .1) in
     let t = w .tree in
-    let q : row-at ns place .end ≡ place + node-size t = ended place le lt ∙ ap (λ x. place + node-size x) (w .at-place) in
-    (w .rest, ap (λ p. stack (drop p (nodes-of ns))) q ∙ w .after,
-     g .2 ∙ ap (skipped place left) (w .is) ∙ skipped-more place left t (w .rest) pos ∙ ap (λ p. skipped p (left - 1) (w .rest)) (sym q))
+    let q : row-at ns place .end ≡ place + node-size t = ended place le lt ∙ ap (λ x. place + node-size x) (w .at-place) in (
+      w .rest,
+      ap (λ p. stack (drop p (nodes-of ns))) q ∙ w .after,
+      g .2 ∙ ap (skipped place left) (w .is) ∙ skipped-more place left t (w .rest) pos ∙ ap (λ p. skipped p (left - 1) (w .rest)) (sym q),
+    )
 
 pub skip-past : (ns : List Row) (at count place left : ℕ) → length ns ≤ place → 0 < left → Skips ns at count place left
     → (ts : List Term) → stack (drop at (nodes-of ns)) ≡ some ts → None ≡ skipped at count ts
@@ -160,16 +162,25 @@ args zero ts at = inl ((t-none, ts), refl, ap Some (let p : at ≡ at + 0 = omeg
 args (suc n) [] at = inr (refl, refl)
 args (suc n) (t ∷ ts) at =
     elim (args n ts (at + node-size t)) [
-      inl g ↦ inl ((t-more t (g .0 .0), g .0 .1), ap (more-taken t) (g .1),
-        g .2 ∙ ap Some (let l = length-append (flat t) (flats (g .0 .0)) in let p : at + node-size t + length (flats (g .0 .0)) ≡ at + length (flat t ++ flats (g .0 .0)) = omega arith in p))
-    | inr g ↦ inr (ap (more-taken t) (g .0), g .1) ]
+      | inl g ↦ inl (
+        (t-more t (g .0 .0), g .0 .1),
+        ap (more-taken t) (g .1),
+        g .2 ∙ ap Some (let l = length-append (flat t) (flats (g .0 .0)) in let p : at + node-size t + length (flats (g .0 .0)) ≡ at + length (flat t ++ flats (g .0 .0)) = omega arith in p),
+      )
+      | inr g ↦ inr (ap (more-taken t) (g .0), g .1)
+    ]
 
 call-goes : (l : LegId) (n : ℕ) (ts : List Term) (at : ℕ) → Goes (Call l n) ts at
 call-goes l n ts at =
     elim (args n ts (suc at)) [
-      inl g ↦ inl (record { tree = t-call (l .index) (g .0 .0); rest = g .0 .1; is = ap (called (l .index)) (g .1);
-        ends = g .2 ∙ ap Some (let p : suc at + length (flats (g .0 .0)) ≡ at + suc (length (flats (g .0 .0))) = omega arith in p) })
-    | inr g ↦ inr (ap (called (l .index)) (g .0), g .1) ]
+      | inl g ↦ inl (record {
+        tree = t-call (l .index) (g .0 .0);
+        rest = g .0 .1;
+        is = ap (called (l .index)) (g .1);
+        ends = g .2 ∙ ap Some (let p : suc at + length (flats (g .0 .0)) ≡ at + suc (length (flats (g .0 .0))) = omega arith in p);
+      })
+      | inr g ↦ inr (ap (called (l .index)) (g .0), g .1)
+    ]
 
 pub goes : (node : Node) (ts : List Term) (at : ℕ) → Goes node ts at
 goes Unit′ ts at = none-goes Unit′ t-unit ts at refl refl refl
@@ -234,13 +245,14 @@ module _ (i : ℕ) (before now : List Row) (h : Closing (suc i) before now) (lt 
       let len = length-set now i new in
       let same : term-at (with-end e) j ≡ term-at now j = ap (λ os. top (stack (drop j os))) candidates in
       elim (cases-eq j i) [
-        inl q ↦
-          ap (λ k. row-at (with-end e) k .end) q ∙ ap (λ n. n .end) (getD-set-same now i new no-row lt) ∙ end-is
-          ∙ ap₂ (λ x t. x + node-size t) (sym q) (sym (same ∙ ap (λ k. term-at now k) q ∙ ap top (stack-here ∙ m .is)))
-      | inr q ↦
-          ap (λ n. n .end) (getD-set-other now i j new no-row q)
-          ∙ h .stands .ended j (let z : suc i ≤ j = lt-of-le-ne {i = i} {k = j} le (λ z. q (sym z)) in z) (let z : j < length now = omega arith in z)
-          ∙ ap (λ t. j + node-size t) (sym same) ]
+        | inl q ↦
+            ap (λ k. row-at (with-end e) k .end) q ∙ ap (λ n. n .end) (getD-set-same now i new no-row lt) ∙ end-is
+            ∙ ap₂ (λ x t. x + node-size t) (sym q) (sym (same ∙ ap (λ k. term-at now k) q ∙ ap top (stack-here ∙ m .is)))
+        | inr q ↦
+            ap (λ n. n .end) (getD-set-other now i j new no-row q)
+            ∙ h .stands .ended j (let z : suc i ≤ j = lt-of-le-ne {i = i} {k = j} le (λ z. q (sym z)) in z) (let z : j < length now = omega arith in z)
+            ∙ ap (λ t. j + node-size t) (sym same)
+      ]
 
   pub closing-next : (e : ℕ) → Some e ≡ skipped (suc i) (kids-of here-node) (whole .0) → (e ≤ length now) × Closing i before (set now i (record { node = here-node; end = e }))
   closing-next e q =

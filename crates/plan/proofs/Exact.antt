@@ -47,6 +47,7 @@ byte-exact ok fault all = record { sound = sound; full = full }
         let q = cond-ok (ok y) (y, bs) (x, rest) (fault (all - length (y ∷ bs))) e in
         let yx : y ≡ x = ap (λ p. p .0) (q .1) in
         (ap₂ (λ h t. h ∷ t) yx (ap (λ p. p .1) (q .1)), subst (λ z. ok z ≡ true) yx (q .0))
+
     full : (x : ℕ) (rest : List ℕ) → ok x ≡ true → byte-if ok fault all (x ∷ rest) ≡ Ok (x, rest)
     full x rest e = ap (λ b. cond b (Ok (x, rest)) (Err (fault (all - length (x ∷ rest))))) e
 
@@ -68,7 +69,7 @@ module _ {X S : Type 0} (next : S → X → S) (ok : S → X → Type 0) (write 
       let cons : x ∷ j .0 ≡ xs = ap (λ p. p .0) both in
       let last : j .1 ≡ rest = ap (λ p. p .1) both in
       let eq : bs ≡ all-bytes write (x ∷ j .0) ++ rest =
-          one .0 ∙ ap (λ r. write x ++ r) (more .0 ∙ ap (λ r. all-bytes write (j .0) ++ r) last) ∙ sym (append-assoc (write x) (all-bytes write (j .0)) rest) in
+      one .0 ∙ ap (λ r. write x ++ r) (more .0 ∙ ap (λ r. all-bytes write (j .0) ++ r) last) ∙ sym (append-assoc (write x) (all-bytes write (j .0)) rest) in
       subst (λ l. (bs ≡ all-bytes write l ++ rest) × Run next ok s l × (length l ≡ suc n)) cons (eq, (one .1, more .1), ap suc (more .2))
 
   pub many-full : (xs : List X) (s : S) (rest : List ℕ) → Run next ok s xs → many next P (length xs) s (all-bytes write xs ++ rest) ≡ Ok (xs, rest)

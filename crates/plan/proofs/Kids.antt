@@ -78,10 +78,10 @@ module _ (ns : List Row) (s : Standing 0 ns) where
       let t = h .tree in
       let back : drop i (nodes-of ns) ≡ flat t ++ flat-all (h .rest) = stack-back (drop i (nodes-of ns)) (f .0) (f .1) ∙ ap flat-all (h .is) in
       let cons : row-at ns i .node ∷ drop (suc i) (nodes-of ns) ≡ head t ∷ (flat-all (kids t) ++ flat-all (h .rest)) =
-          sym (drop-nodes ns i lt) ∙ back ∙ ap (λ l. l ++ flat-all (h .rest)) (flat-head t) in
+      sym (drop-nodes ns i lt) ∙ back ∙ ap (λ l. l ++ flat-all (h .rest)) (flat-head t) in
       let first : row-at ns i .node ≡ head t = cc in
       let others : drop (suc i) (nodes-of ns) ≡ flat-all (kids t) ++ flat-all (h .rest) = cc in
       let behind : stack (drop (i + 1) (nodes-of ns)) ≡ some (kids t ++ h .rest) =
-          ap (λ k. stack (drop k (nodes-of ns))) (let e : i + 1 ≡ suc i = omega arith in e)
-          ∙ ap stack (others ∙ sym (flat-all-append (kids t) (h .rest))) ∙ stack-of-all (kids t ++ h .rest) in
+      ap (λ k. stack (drop k (nodes-of ns))) (let e : i + 1 ≡ suc i = omega arith in e)
+      ∙ ap stack (others ∙ sym (flat-all-append (kids t) (h .rest))) ∙ stack-of-all (kids t ++ h .rest) in
       subst (λ x. (row-at ns i .node ≡ head x) × Stand ns (i + 1) (kids x)) (sym (h .at-place)) (first, stand (i + 1) (kids t) (h .rest) behind)

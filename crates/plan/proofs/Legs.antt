@@ -105,7 +105,7 @@ pub legs-kept : (p : ℕ) (before after : List Row) (gs : List FlatLeg) → In-o
 legs-kept p before after [] b k = refl
 legs-kept p before after (g ∷ gs) b k =
     ap₂ (λ t l. record { params = params-of g; result = g .result; first = g .binder .index; body = t } ∷ l) (k (g .first) (subst (λ x. x < length before) (sym (b .0)) (b .1)))
-      (legs-kept (p + node-size (term-at before p)) before after gs (b .3) k)
+    (legs-kept (p + node-size (term-at before p)) before after gs (b .3) k)
 
 pub legs-push : (ns : List Row) (gs : List FlatLeg) (g : FlatLeg) → legs-in ns (gs ++ (g ∷ [])) ≡ legs-in ns gs ++ (leg-in ns g ∷ [])
 legs-push ns [] g = refl
@@ -116,9 +116,12 @@ pub order-push : (p : ℕ) (before after : List Row) (gs : List FlatLeg) (g : Fl
 order-push p before after [] g k b first few more size =
     (first ∙ sym b, subst (λ x. x < length after) (sym b) more, few, ap (λ x. x + node-size (term-at after x)) b ∙ sym size)
 order-push p before after (h ∷ gs) g k b first few more size =
-    let lt = b .1 in
-    (b .0, omega arith, b .2,
-     subst (λ t. In-order (p + node-size t) after (gs ++ (g ∷ []))) (sym (k p lt)) (order-push (p + node-size (term-at before p)) before after gs g k (b .3) first few more size))
+    let lt = b .1 in (
+      b .0,
+      omega arith,
+      b .2,
+      subst (λ t. In-order (p + node-size t) after (gs ++ (g ∷ []))) (sym (k p lt)) (order-push (p + node-size (term-at before p)) before after gs g k (b .3) first few more size),
+    )
 
 arities-push : (gs : List FlatLeg) (g : FlatLeg) → arities-of (gs ++ (g ∷ [])) ≡ arities-of gs ++ (g .count ∷ [])
 arities-push [] g = refl

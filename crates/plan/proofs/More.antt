@@ -36,8 +36,9 @@ module _ (before after : List Row) (os : List Node) (s : Standing 0 before) (t :
   ended : Ended 0 after
   ended i z lt =
       elim (cases-lt i (length before)) [
-        inl h ↦ ap (λ n. n .end) (kept i h) ∙ s .ended i z h ∙ ap (λ x. i + node-size x) (sym (trees-kept i h))
-      | inr h ↦ t .ended i h lt ]
+        | inl h ↦ ap (λ n. n .end) (kept i h) ∙ s .ended i z h ∙ ap (λ x. i + node-size x) (sym (trees-kept i h))
+        | inr h ↦ t .ended i h lt
+      ]
 
   pub standing-more : Standing 0 after
   standing-more = record { whole = (s .whole .0 ++ t .whole .0, joined 0 (omega arith) (s .whole .0) (s .whole .1)); ended = ended }

@@ -203,8 +203,13 @@ module _ (all types : ℕ) (arities : List ℕ) (k : ℕ) where
       let er : bs ≡ rest = ap (λ p. p .2) (i .1) in
       let head = s .head-is in
       let eh : h ≡ 0x10 + kind = omega arith in
-      inr (inl (cc, (λ z. i .0 (ev ∙ z)), subst (λ n. n < 256) ev (b .0), subst (λ n. n ≤ 12) ek (s .known),
-        subst (λ n. rule n .field ≡ Byte) ek (own-field Byte s (λ z. absurd (let z : _≡_ {A = ℕ} 0 1 = cc in omega arith)))))
+      inr (inl (
+        cc,
+        (λ z. i .0 (ev ∙ z)),
+        subst (λ n. n < 256) ev (b .0),
+        subst (λ n. n ≤ 12) ek (s .known),
+        subst (λ n. rule n .field ≡ Byte) ek (own-field Byte s (λ z. absurd (let z : _≡_ {A = ℕ} 0 1 = cc in omega arith))),
+      ))
 
   read-number-way : (at : ℕ) (bs : List ℕ) (kind v : ℕ) (rest : List ℕ) → Bytes bs → read-number all at 1 bs ≡ Ok (kind, v, rest) → Way (0x21 ∷ bs) kind v rest
   read-number-way at [] kind v rest b e = absurd (let z : _≡_ {A = ℕ} 0 1 = cc in omega arith)

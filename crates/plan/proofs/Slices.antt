@@ -91,14 +91,14 @@ call-not types k v gs le =
 pub entry-breaks : (all : ℕ) (ts : List Shape) (tag : ℕ) (rest : List ℕ) (f : ReadFault) → (eqb tag 1 || eqb tag 2) ≡ true → read-type all (length ts) rest ≡ Err f → read-entry all ts (tag ∷ rest) ≡ Err f
 entry-breaks all ts tag rest f t e =
     ap (λ b. then-read (cond {A = Got ℕ} b (Ok (tag, rest)) (Err («Ref» (all - length (tag ∷ rest))))) (λ tag r.
-      then-read (read-type all (length ts) r) (λ a r′. then-read (read-type all (length ts) r′) (λ b r″. new-entry (all - length (tag ∷ rest)) ts (entry-of tag a b) r″)))) t
+    then-read (read-type all (length ts) r) (λ a r′. then-read (read-type all (length ts) r′) (λ b r″. new-entry (all - length (tag ∷ rest)) ts (entry-of tag a b) r″)))) t
     ∙ ap (λ g. then-read g (λ a r′. then-read (read-type all (length ts) r′) (λ b r″. new-entry (all - length (tag ∷ rest)) ts (entry-of tag a b) r″))) e
 
 pub entry-there : (all : ℕ) (ts : List Shape) (tag : ℕ) (a b : TypeId) (rest r r′ : List ℕ) → (eqb tag 1 || eqb tag 2) ≡ true → read-type all (length ts) rest ≡ Ok (a, r) → read-type all (length ts) r ≡ Ok (b, r′) → listed (entry-of tag a b) ts ≡ false
     → read-entry all ts (tag ∷ rest) ≡ Ok (entry-of tag a b, r′)
 entry-there all ts tag a b rest r r′ t e f n =
     ap (λ b. then-read (cond {A = Got ℕ} b (Ok (tag, rest)) (Err («Ref» (all - length (tag ∷ rest))))) (λ tag r.
-      then-read (read-type all (length ts) r) (λ a r′. then-read (read-type all (length ts) r′) (λ b r″. new-entry (all - length (tag ∷ rest)) ts (entry-of tag a b) r″)))) t
+    then-read (read-type all (length ts) r) (λ a r′. then-read (read-type all (length ts) r′) (λ b r″. new-entry (all - length (tag ∷ rest)) ts (entry-of tag a b) r″)))) t
     ∙ ap (λ g. then-read g (λ a r′. then-read (read-type all (length ts) r′) (λ b r″. new-entry (all - length (tag ∷ rest)) ts (entry-of tag a b) r″))) e
     ∙ ap (λ g. then-read g (λ b r″. new-entry (all - length (tag ∷ rest)) ts (entry-of tag a b) r″)) f
     ∙ ap (λ b′. cond {A = Got Shape} b′ (Err («Ref» (all - length (tag ∷ rest)))) (Ok (entry-of tag a b, r′))) n

@@ -31,8 +31,8 @@ mutual
   stack-flat (t-right y a) os ts e = ap (on? (Right y)) (stack-flat a os ts e)
   stack-flat (t-case k a b c) os ts e =
       ap (on? (Case (the-binder k)))
-        (ap stack (append-assoc (flat a) (flat b ++ flat c) os ∙ ap (λ x. flat a ++ x) (append-assoc (flat b) (flat c) os))
-        ∙ stack-flat a _ _ (stack-flat b _ _ (stack-flat c os ts e)))
+      (ap stack (append-assoc (flat a) (flat b ++ flat c) os ∙ ap (λ x. flat a ++ x) (append-assoc (flat b) (flat c) os))
+      ∙ stack-flat a _ _ (stack-flat b _ _ (stack-flat c os ts e)))
   stack-flat (t-call l us) os ts e = ap (on? (Call (the-leg l) (how-many us))) (stack-flats us os ts e) ∙ ap (called l) (taken-pushed us ts)
   stack-flat (t-add a b) os ts e = ap (on? Add) (ap stack (append-assoc (flat a) (flat b) os) ∙ stack-flat a _ _ (stack-flat b os ts e))
   stack-flat (t-less a b) os ts e = ap (on? Less) (ap stack (append-assoc (flat a) (flat b) os) ∙ stack-flat a _ _ (stack-flat b os ts e))
@@ -66,8 +66,8 @@ three-back o f (a ∷ b ∷ []) w ts e = absurd (let z : _≡_ {A = ℕ} 0 1 = c
 three-back o f (a ∷ b ∷ c ∷ s) w ts e =
     let q : f a b c ∷ s ≡ ts = cc in
     subst (λ x. o ∷ flat-all (a ∷ b ∷ c ∷ s) ≡ flat-all x) q
-      (ap (λ x. o ∷ x) (ap (λ x. flat a ++ x) (sym (append-assoc (flat b) (flat c) (flat-all s))) ∙ sym (append-assoc (flat a) (flat b ++ flat c) (flat-all s)))
-      ∙ ap (λ x. x ++ flat-all s) (sym (w a b c)))
+    (ap (λ x. o ∷ x) (ap (λ x. flat a ++ x) (sym (append-assoc (flat b) (flat c) (flat-all s))) ∙ sym (append-assoc (flat a) (flat b ++ flat c) (flat-all s)))
+    ∙ ap (λ x. x ++ flat-all s) (sym (w a b c)))
 
 taken-back : (n : ℕ) (s : List Term) (p : Terms × List Term) → taken n s ≡ some p → (how-many (p .0) ≡ n) × (flat-all s ≡ flats (p .0) ++ flat-all (p .1))
 taken-back zero s p e =
@@ -84,7 +84,7 @@ taken-back (suc n) (a ∷ s) p e = go (taken n s) refl e (taken-back n s)
         let k = h r q in
         let w : (t-more a (r .0), r .1) ≡ p = Option·some-injective (t-more a (r .0), r .1) p e in
         subst (λ r. (how-many (r .0) ≡ suc n) × (flat-all (a ∷ s) ≡ flats (r .0) ++ flat-all (r .1))) w
-          (ap suc (k .0), ap (λ x. flat a ++ x) (k .1) ∙ sym (append-assoc (flat a) (flats (r .0)) (flat-all (r .1))))
+        (ap suc (k .0), ap (λ x. flat a ++ x) (k .1) ∙ sym (append-assoc (flat a) (flats (r .0)) (flat-all (r .1))))
 
 call-back : (l : LegId) (n : ℕ) (s : List Term) (o : Option (Terms × List Term)) → taken n s ≡ o → Back (Call l n) (flat-all s) (called (l .index) o)
 call-back l n s none q ts e = absurd (let z : _≡_ {A = ℕ} 0 1 = cc in omega arith)

@@ -66,4 +66,3 @@ listed-empty y (x ∷ ts) h = absurd (omega arith)
 
 pub listed-next : (y x : Shape) (ts rest : List Shape) → ts ≡ x ∷ rest → same-type x y ≡ false → listed y rest ≡ listed y ts
 listed-next y x ts rest e q = ap (λ b. b || listed y rest) (sym q) ∙ ap (listed y) (sym e)
-

@@ -20,7 +20,7 @@ kind f c b = record { field = f; kids = c; binders = b }
 -- By their numbers: unit, number, name, let, take, pair, split, left, right, case, call, add, less.
 abbrev pub kinds : List Kind
 kinds =
-       kind Absent (Fixed 0) 0
+    kind Absent (Fixed 0) 0
     ∷ kind Word (Fixed 0) 0
     ∷ kind Byte (Fixed 0) 0
     ∷ kind Absent (Fixed 2) 1

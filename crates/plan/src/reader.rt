@@ -16,9 +16,9 @@ use crate::Binder;
 use crate::Leg;
 use crate::LegId;
 use crate::Level;
+use crate::Node;
 use crate::Plan;
 use crate::Row;
-use crate::Node;
 use crate::Type;
 use crate::TypeId;
 use crate::faults::NoMemoryIn;
@@ -56,7 +56,11 @@ fn read_type<'a>(all: usize, types: usize, bytes: &'a [u8]) -> Result<(TypeId, &
 }
 
 // An entry of the table: a pair or an either of lower types, not there yet.
-fn read_entry<'a>(all: usize, table: &[Type], bytes: &'a [u8]) -> Result<(Type, &'a [u8]), ReadFault>
+fn read_entry<'a>(
+    all: usize,
+    table: &[Type],
+    bytes: &'a [u8],
+) -> Result<(Type, &'a [u8]), ReadFault>
     requires { ⌜ length (now bytes) ≤ all ⌝ }
     ensures { λ r. ⌜ Answer (now (bytes .entry)) (read-entry all (now (table .entry)) (now (bytes .entry))) r ⌝ }
 {
@@ -127,24 +131,16 @@ fn node_of(types: usize, legs: &[Leg], binder: u16, kind: u8, value: u32) -> Opt
     match kind {
         0 => Some(Node::Unit),
         1 => Some(Node::Number(value)),
-        2 => Some(Node::Name(Level {
-            index: value as u8,
-        })),
+        2 => Some(Node::Name(Level { index: value as u8 })),
         3 => Some(Node::Let(binder)),
         4 => Some(Node::Take(binder)),
         5 => Some(Node::Pair),
         6 => Some(Node::Split(binder)),
-        7 if (value as usize) < types => Some(Node::Left(TypeId {
-            index: value as u8,
-        })),
-        8 if (value as usize) < types => Some(Node::Right(TypeId {
-            index: value as u8,
-        })),
+        7 if (value as usize) < types => Some(Node::Left(TypeId { index: value as u8 })),
+        8 if (value as usize) < types => Some(Node::Right(TypeId { index: value as u8 })),
         9 => Some(Node::Case(binder)),
         10 if (value as usize) < legs.len() => Some(Node::Call(
-            LegId {
-                index: value as u8,
-            },
+            LegId { index: value as u8 },
             legs[value as usize].count,
         )),
         11 => Some(Node::Add),
@@ -292,8 +288,15 @@ fn read_leg<'a>(
     let (result, after_result) = read_type(all, types, after_params)?;
     let first = nodes.len();
     let (size, after_size) = read_count(all, first, after_result)?;
-    let (next, after_nodes) =
-        read_nodes(all, types, legs, size, binder + count as u16, nodes, after_size)?;
+    let (next, after_nodes) = read_nodes(
+        all,
+        types,
+        legs,
+        size,
+        binder + count as u16,
+        nodes,
+        after_size,
+    )?;
     if !close_leg(nodes, first) {
         return Err(ReadFault::Shape(all - after_result.len()));
     }
@@ -407,9 +410,5 @@ pub fn read(heap: Global, bytes: &[u8]) -> Result<Plan, PlanFault>
     let mut legs: Vec<Leg> = Vec::with_capacity(heap, MAX_LEGS as usize)?;
     let mut nodes: Vec<Row> = Vec::with_capacity(heap, MAX_NODES)?;
     read_into(bytes, &mut types, &mut legs, &mut nodes)?;
-    Ok(Plan {
-        types,
-        legs,
-        nodes,
-    })
+    Ok(Plan { types, legs, nodes })
 }

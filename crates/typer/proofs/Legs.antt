@@ -81,9 +81,10 @@ few-push (a ∷ arities) n le h (suc l) = few-push arities n le (λ j. h (suc j)
 
 pub bodies-few : (types : ℕ) (s : Before) (gs : List Leg) → ((l : ℕ) → getD (s .arities) l 0 ≤ max-params) → Run with-leg (Leg-laid types) s gs → Bodies-few gs
 bodies-few types s [] h r = tt
-bodies-few types s (g ∷ gs) h r =
-    (few-nodes types (s .arities) (s .next + length (g .params)) (flat (g .body)) h (r .0 .nodes-laid),
-     bodies-few types (with-leg s g) gs (few-push (s .arities) (length (g .params)) (r .0 .few-params) h) (r .1))
+bodies-few types s (g ∷ gs) h r = (
+  few-nodes types (s .arities) (s .next + length (g .params)) (flat (g .body)) h (r .0 .nodes-laid),
+  bodies-few types (with-leg s g) gs (few-push (s .arities) (length (g .params)) (r .0 .few-params) h) (r .1),
+)
 
 pub each-few : (p : ℕ) (ns : List Row) (gs : List FlatLeg) → In-order p ns gs → Each-few gs
 each-few p ns [] o l lt = absurd (omega arith)

@@ -3,3 +3,4 @@ mod Scopes
 mod Views
 mod Walking
 mod Legs
+mod Accepted

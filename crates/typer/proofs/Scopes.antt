@@ -35,8 +35,9 @@ found-down zero l ys h = absurd (omega arith)
 found-down (suc n) l ys h =
     let e = down-length n ys in
     elim (cases-eq l n) [
-      inl q ↦ ap (λ k. Some (getD ys k unit-type)) q ∙ sym (ap (λ b. cond b (Some (getD ys n unit-type)) (found (down n ys) l)) (eq-eqb l (length (down n ys)) (q ∙ sym e)))
-    | inr q ↦ found-down n l ys (lower n l h q) ∙ sym (ap (λ b. cond b (Some (getD ys n unit-type)) (found (down n ys) l)) (ne-eqb l (length (down n ys)) (λ z. q (z ∙ e)))) ]
+      | inl q ↦ ap (λ k. Some (getD ys k unit-type)) q ∙ sym (ap (λ b. cond b (Some (getD ys n unit-type)) (found (down n ys) l)) (eq-eqb l (length (down n ys)) (q ∙ sym e)))
+      | inr q ↦ found-down n l ys (lower n l h q) ∙ sym (ap (λ b. cond b (Some (getD ys n unit-type)) (found (down n ys) l)) (ne-eqb l (length (down n ys)) (λ z. q (z ∙ e))))
+    ]
   where
     lower : (n l : ℕ) → l < suc n → (l ≡ n → ⊥) → l < n
     lower n l h q = omega arith

@@ -147,10 +147,16 @@ module _ (w : World) where
         let l = then-inv (check w (q .0 .0 ∷ Γ) (suc i + size a) b) _ y (r .1) in
         let m = then-inv (check w (q .0 .1 ∷ Γ) (suc i + size a + size b) c) _ y (l .2) in
         let s = same-inv i (l .0) (m .0) _ y (m .2) in
-        let uy : l .0 ≡ y = ok-is (l .0) y (s .1) in
-        (p .0, q .0 .0, q .0 .1, sound a Γ (suc i) (p .0) (p .1), either-inv (nth (w .types) (p .0 .index)) (q .0) (there-inv i _ (q .0) (q .1)), r .0,
-         subst (Typed w (q .0 .0 ∷ Γ) b) uy (sound b (q .0 .0 ∷ Γ) (suc i + size a) (l .0) (l .1)),
-         subst (Typed w (q .0 .1 ∷ Γ) c) (sym (s .0) ∙ uy) (sound c (q .0 .1 ∷ Γ) (suc i + size a + size b) (m .0) (m .1)))
+        let uy : l .0 ≡ y = ok-is (l .0) y (s .1) in (
+          p .0,
+          q .0 .0,
+          q .0 .1,
+          sound a Γ (suc i) (p .0) (p .1),
+          either-inv (nth (w .types) (p .0 .index)) (q .0) (there-inv i _ (q .0) (q .1)),
+          r .0,
+          subst (Typed w (q .0 .0 ∷ Γ) b) uy (sound b (q .0 .0 ∷ Γ) (suc i + size a) (l .0) (l .1)),
+          subst (Typed w (q .0 .1 ∷ Γ) c) (sym (s .0) ∙ uy) (sound c (q .0 .1 ∷ Γ) (suc i + size a + size b) (m .0) (m .1)),
+        )
     sound (t-call l us) Γ i y e =
         let p = then-inv (check-all w Γ (suc i) us) _ y e in
         let q = then-inv (there-at i (nth (w .sigs) l)) _ y (p .2) in

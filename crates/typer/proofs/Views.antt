@@ -64,7 +64,7 @@ module _ (w : World) (Γ : List TypeId) (i : ℕ) where
   case-view : (o : Option (TypeId × TypeId)) (b : Bool) (x : TypeId) (c d : List TypeId → Reached TypeId)
       → then-type (there-at i o) (λ p. cond b (then-type (c (p .0 ∷ Γ)) (λ u. then-type (d (p .1 ∷ Γ)) (λ v. if-same i u v (Ok u)))) (Err (BadScope i)))
       ≡ then-type (then-type (then-type (there-at i o) (λ p. cond b (Ok (p .0 ∷ Γ)) (Err (BadScope i)))) (λ Δ. then-type (c Δ) (λ u.
-          then-type (then-type (there-at i o) (λ p. cond b (Ok (p .1 ∷ Γ)) (Err (BadScope i)))) (λ Δ. then-type (d Δ) (λ v. Ok (x ∷ u ∷ v ∷ [])))))) (λ us. if-same i (kid-at us 1) (kid-at us 2) (Ok (kid-at us 1)))
+      then-type (then-type (there-at i o) (λ p. cond b (Ok (p .1 ∷ Γ)) (Err (BadScope i)))) (λ Δ. then-type (d Δ) (λ v. Ok (x ∷ u ∷ v ∷ [])))))) (λ us. if-same i (kid-at us 1) (kid-at us 2) (Ok (kid-at us 1)))
   case-view None b x c d = refl
   case-view (Some p) false x c d = refl
   case-view (Some p) true x c d = go (c (p .0 ∷ Γ))
@@ -72,6 +72,7 @@ module _ (w : World) (Γ : List TypeId) (i : ℕ) where
       last : (u : TypeId) (q : Reached TypeId) → then-type q (λ v. if-same i u v (Ok u)) ≡ then-type (then-type q (λ v. Ok (x ∷ u ∷ v ∷ []))) (λ us. if-same i (kid-at us 1) (kid-at us 2) (Ok (kid-at us 1)))
       last u (Ok v) = refl
       last u (Err e) = refl
+
       go : (q : Reached TypeId) → then-type q (λ u. then-type (d (p .1 ∷ Γ)) (λ v. if-same i u v (Ok u)))
           ≡ then-type (then-type q (λ u. then-type (d (p .1 ∷ Γ)) (λ v. Ok (x ∷ u ∷ v ∷ [])))) (λ us. if-same i (kid-at us 1) (kid-at us 2) (Ok (kid-at us 1)))
       go (Ok u) = last u (d (p .1 ∷ Γ))
@@ -102,6 +103,7 @@ module _ (w : World) (Γ : List TypeId) (i : ℕ) where
       more : (u : TypeId) (q : Reached (List TypeId)) → then-type q (λ ys. Ok ((us ++ (u ∷ [])) ++ ys)) ≡ then-type (then-type q (λ ys. Ok (u ∷ ys))) (λ ys. Ok (us ++ ys))
       more u (Ok ys) = ap Ok (append-assoc us (u ∷ []) ys)
       more u (Err e) = refl
+
       go : (r : Reached TypeId) → ((u : TypeId) → check-kids w Γ i (Call l n) (us ++ (u ∷ [])) (p + size a) (arguments ts) ≡ then-type (check-all w Γ (p + size a) ts) (λ ys. Ok ((us ++ (u ∷ [])) ++ ys)))
           → then-type r (λ u. check-kids w Γ i (Call l n) (us ++ (u ∷ [])) (p + size a) (arguments ts)) ≡ then-type (then-type r (λ u. then-type (check-all w Γ (p + size a) ts) (λ ys. Ok (u ∷ ys)))) (λ ys. Ok (us ++ ys))
       go (Ok u) h = h u ∙ more u (check-all w Γ (p + size a) ts)
@@ -176,7 +178,7 @@ mutual
   levels-length d (t-right y a) = ap suc (levels-length d a)
   levels-length d (t-case k a b c) =
       ap suc (both (levels d a) (levels (d + 1) b ++ levels (d + 1) c) (flat a) (flat b ++ flat c) (levels-length d a)
-        (both (levels (d + 1) b) (levels (d + 1) c) (flat b) (flat c) (levels-length (d + 1) b) (levels-length (d + 1) c)))
+      (both (levels (d + 1) b) (levels (d + 1) c) (flat b) (flat c) (levels-length (d + 1) b) (levels-length (d + 1) c)))
   levels-length d (t-call l ts) = ap suc (each-length d ts)
   levels-length d (t-add a b) = ap suc (both (levels d a) (levels d b) (flat a) (flat b) (levels-length d a) (levels-length d b))
   levels-length d (t-less a b) = ap suc (both (levels d a) (levels d b) (flat a) (flat b) (levels-length d a) (levels-length d b))

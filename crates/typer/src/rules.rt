@@ -21,7 +21,9 @@ use plan::types::is_same;
 
 // Unit, number, and what a comparison gives.
 pub const UNIT: TypeId = TypeId { index: 0 };
+
 pub const NUMBER: TypeId = TypeId { index: 1 };
+
 pub const TRUTH: TypeId = TypeId { index: 2 };
 
 // The place of a type in the table.

@@ -32,9 +32,9 @@ returns-then-not-close-leg c =
     let ek : c .in-Continue-params .count ≡ length (take (c .in-Continue-params .count) (c .in-Continue-params .params)) = sym (length-take-le (c .in-Continue-params .count) (c .in-Continue-params .params) (omega arith)) in
     record {
       answer = leg-fails (c .args .all) (c .args .types) (c .args .legs .now) (c .args .binder) before (O .0) (c .args .bytes .now) (c .in-Continue-params .after-params .now) (c .in-Continue-result .after-result .now) (c .in-Continue-size .after-size .now) (c .in-Continue-next .after-nodes .now)
-        (take (c .in-Continue-params .count) (c .in-Continue-params .params)) (c .in-Continue-params .count) (c .in-Continue-result .result) (c .in-Continue-size .size) (P .0) (Y .0)
-        (subst (λ u. read-count (c .args .all) u (c .in-Continue-result .after-result .now) ≡ Ok (c .in-Continue-size .size, c .in-Continue-size .after-size .now)) lb (N .0)) ek (O .2) (vec-items (c .close-leg .last .nodes)) (c .close-leg .result) (c .if-not-close-leg .taken)
-        (subst (λ b. Closed (length before) b (vec-items (c .close-leg .last .nodes)) (c .close-leg .result)) (O .1) (subst (λ f. Closed f (vec-items (c .read-nodes .last .nodes)) (vec-items (c .close-leg .last .nodes)) (c .close-leg .result)) lb (c .close-leg .ensures .closed)));
+          (take (c .in-Continue-params .count) (c .in-Continue-params .params)) (c .in-Continue-params .count) (c .in-Continue-result .result) (c .in-Continue-size .size) (P .0) (Y .0)
+          (subst (λ u. read-count (c .args .all) u (c .in-Continue-result .after-result .now) ≡ Ok (c .in-Continue-size .size, c .in-Continue-size .after-size .now)) lb (N .0)) ek (O .2) (vec-items (c .close-leg .last .nodes)) (c .close-leg .result) (c .if-not-close-leg .taken)
+          (subst (λ b. Closed (length before) b (vec-items (c .close-leg .last .nodes)) (c .close-leg .result)) (O .1) (subst (λ f. Closed f (vec-items (c .read-nodes .last .nodes)) (vec-items (c .close-leg .last .nodes)) (c .close-leg .result)) lb (c .close-leg .ensures .closed)));
       cap = c .close-leg .ensures .cap ∙ c .in-Continue-next .ensures tt .cap;
       len = tt;
     }
@@ -51,10 +51,10 @@ returns c =
     let ek : c .in-Continue-params .count ≡ length (take (c .in-Continue-params .count) (c .in-Continue-params .params)) = sym (length-take-le (c .in-Continue-params .count) (c .in-Continue-params .params) (omega arith)) in
     record {
       answer = leg-made (c .args .all) (c .args .types) (c .args .legs .now) (c .args .binder) before (O .0) (c .args .bytes .now) (c .in-Continue-params .after-params .now) (c .in-Continue-result .after-result .now) (c .in-Continue-size .after-size .now) (c .in-Continue-next .after-nodes .now)
-        (take (c .in-Continue-params .count) (c .in-Continue-params .params)) (c .in-Continue-params .count) (c .in-Continue-result .result) (c .in-Continue-size .size) (P .0) (Y .0)
-        (subst (λ u. read-count (c .args .all) u (c .in-Continue-result .after-result .now) ≡ Ok (c .in-Continue-size .size, c .in-Continue-size .after-size .now)) lb (N .0)) ek (O .2) (vec-items (c .close-leg .last .nodes)) (c .close-leg .result) _ _ (c .if-not-close-leg .left)
-        (subst (λ b. Closed (length before) b (vec-items (c .close-leg .last .nodes)) (c .close-leg .result)) (O .1) (subst (λ f. Closed f (vec-items (c .read-nodes .last .nodes)) (vec-items (c .close-leg .last .nodes)) (c .close-leg .result)) lb (c .close-leg .ensures .closed)))
-        (c .pre .stands) refl refl refl refl (P .1) lb (O .3) (omega (arith, P .2, Y .1, N .1, O .5));
+          (take (c .in-Continue-params .count) (c .in-Continue-params .params)) (c .in-Continue-params .count) (c .in-Continue-result .result) (c .in-Continue-size .size) (P .0) (Y .0)
+          (subst (λ u. read-count (c .args .all) u (c .in-Continue-result .after-result .now) ≡ Ok (c .in-Continue-size .size, c .in-Continue-size .after-size .now)) lb (N .0)) ek (O .2) (vec-items (c .close-leg .last .nodes)) (c .close-leg .result) _ _ (c .if-not-close-leg .left)
+          (subst (λ b. Closed (length before) b (vec-items (c .close-leg .last .nodes)) (c .close-leg .result)) (O .1) (subst (λ f. Closed f (vec-items (c .read-nodes .last .nodes)) (vec-items (c .close-leg .last .nodes)) (c .close-leg .result)) lb (c .close-leg .ensures .closed)))
+          (c .pre .stands) refl refl refl refl (P .1) lb (O .3) (omega (arith, P .2, Y .1, N .1, O .5));
       cap = c .close-leg .ensures .cap ∙ c .in-Continue-next .ensures tt .cap;
       len = (let n = c .in-Continue-size .ensures tt .few in let l = c .in-Continue-next .ensures tt .len in let m = c .close-leg .ensures .len in let f = c .len-first .ensures in omega arith);
     }

@@ -26,7 +26,7 @@ returns-in-Break-leg c =
     let n = c .in-Continue-count .ensures tt in
     let at = ap (λ g. read-leg (c .args .all) (c .args .types) (before-of g (c .loop-i .binder) (vec-items (c .loop-i .nodes))) (c .loop-i .rest .now)) (sym (c .as-slice .ensures .value)) ∙ c .in-Break-leg .ensures tt .answer in
     rw (p .1, p .2) (ap (λ g. then-read g (λ n r. many with-leg (read-leg (c .args .all) (c .args .types)) n none-before r)) (n .answer .0)
-      ∙ left-fails with-leg (read-leg (c .args .all) (c .args .types)) (c .in-Continue-count .count) none-before (c .in-Continue-count .after-count .now) (c .loop-i .i) (before-of (vec-items (c .loop-i .legs)) (c .loop-i .binder) (vec-items (c .loop-i .nodes))) (c .loop-i .rest .now) (legs-in (vec-items (c .loop-i .nodes)) (vec-items (c .loop-i .legs))) _ (c .loop-i-test .taken) (v .9) at)
+    ∙ left-fails with-leg (read-leg (c .args .all) (c .args .types)) (c .in-Continue-count .count) none-before (c .in-Continue-count .after-count .now) (c .loop-i .i) (before-of (vec-items (c .loop-i .legs)) (c .loop-i .binder) (vec-items (c .loop-i .nodes))) (c .loop-i .rest .now) (legs-in (vec-items (c .loop-i .nodes)) (vec-items (c .loop-i .legs))) _ (c .loop-i-test .taken) (v .9) at)
 
 pub loop-i-again : need.loop-i-again
 loop-i-again c =
@@ -67,6 +67,6 @@ loop-i-again c =
       L .stands,
       subst (In-order 0 after) (sym items) (order-push 0 before after gs g (L .kept) (v .8) first-is few (omega arith) (longer ∙ ap (λ x. length before + node-size (term-at after x)) first-is)),
       subst (λ x. Left with-leg (read-leg all types) (c .in-Continue-count .count) none-before (c .in-Continue-count .after-count .now) (c .loop-i .i + 1) (before-of x next after) then (legs-in after x)) (sym items)
-        (subst (Left with-leg (read-leg all types) (c .in-Continue-count .count) none-before (c .in-Continue-count .after-count .now) (c .loop-i .i + 1) (before-of (gs ++ (g ∷ [])) next after) then) (ap (λ l. l ++ (leg-in after g ∷ [])) (sym old) ∙ sym (legs-push after gs g))
+          (subst (Left with-leg (read-leg all types) (c .in-Continue-count .count) none-before (c .in-Continue-count .after-count .now) (c .loop-i .i + 1) (before-of (gs ++ (g ∷ [])) next after) then) (ap (λ l. l ++ (leg-in after g ∷ [])) (sym old) ∙ sym (legs-push after gs g))
           (subst (λ s. Left with-leg (read-leg all types) (c .in-Continue-count .count) none-before (c .in-Continue-count .after-count .now) (c .loop-i .i + 1) s then (legs-in before gs ++ (leg-in after g ∷ []))) state left)),
     )

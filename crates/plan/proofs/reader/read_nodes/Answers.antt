@@ -43,10 +43,12 @@ loop-i-again c =
       omega arith,
       search needs,
       search needs,
-      (old ++ (row ∷ []),
-       c .push-reserved .ensures .items ∙ ap (λ l. l ++ (row ∷ [])) (v .5 .1) ∙ append-assoc (vec-items (c .args .nodes .now)) old (row ∷ []),
-       omega arith,
-       sym more ∙ ap (λ k. with-node k node) (v .5 .3) ∙ sym (binders-push (c .args .binder) (nodes-of old) node) ∙ ap (binders-in (c .args .binder)) (sym (nodes-push old row)),
-       subst (λ os. Left with-node (read-node (c .args .all) (c .args .types) arities) (c .args .count) (c .args .binder) (c .args .bytes .now) (c .loop-i .i + 1) (c .loop-i .next + c .binders-of-next .result) (c .in-Continue-node .after .now) os) (sym (nodes-push old row))
-         (subst (λ k. Left with-node (read-node (c .args .all) (c .args .types) arities) (c .args .count) (c .args .binder) (c .args .bytes .now) (c .loop-i .i + 1) k (c .in-Continue-node .after .now) (nodes-of old ++ (node ∷ []))) more left)),
+      (
+        old ++ (row ∷ []),
+        c .push-reserved .ensures .items ∙ ap (λ l. l ++ (row ∷ [])) (v .5 .1) ∙ append-assoc (vec-items (c .args .nodes .now)) old (row ∷ []),
+        omega arith,
+        sym more ∙ ap (λ k. with-node k node) (v .5 .3) ∙ sym (binders-push (c .args .binder) (nodes-of old) node) ∙ ap (binders-in (c .args .binder)) (sym (nodes-push old row)),
+        subst (λ os. Left with-node (read-node (c .args .all) (c .args .types) arities) (c .args .count) (c .args .binder) (c .args .bytes .now) (c .loop-i .i + 1) (c .loop-i .next + c .binders-of-next .result) (c .in-Continue-node .after .now) os) (sym (nodes-push old row))
+            (subst (λ k. Left with-node (read-node (c .args .all) (c .args .types) arities) (c .args .count) (c .args .binder) (c .args .bytes .now) (c .loop-i .i + 1) k (c .in-Continue-node .after .now) (nodes-of old ++ (node ∷ []))) more left),
+      ),
     )

@@ -17,7 +17,7 @@ returns-in-Break-y c =
     let v = c .loop-i .inv in
     let n = c .in-Continue-count .ensures tt in
     rw (p .1, p .2) (ap (λ g. then-read g (λ n r. many same-state (read-type (c .args .all)) n (c .args .types) r)) (n .answer .0)
-      ∙ left-fails same-state (read-type (c .args .all)) (c .in-Continue-count .count) (c .args .types) (c .in-Continue-count .after-count .now) (c .loop-i .i) (c .args .types) (c .loop-i .rest .now) (take (c .loop-i .i) (c .loop-i .params)) _ (c .loop-i-test .taken) (v .3) (c .in-Break-y .ensures tt))
+    ∙ left-fails same-state (read-type (c .args .all)) (c .in-Continue-count .count) (c .args .types) (c .in-Continue-count .after-count .now) (c .loop-i .i) (c .args .types) (c .loop-i .rest .now) (take (c .loop-i .i) (c .loop-i .params)) _ (c .loop-i-test .taken) (v .3) (c .in-Break-y .ensures tt))
 
 pub loop-i-again : need.loop-i-again
 loop-i-again c =
@@ -29,8 +29,8 @@ loop-i-again c =
       length-set (c .loop-i .params) (c .loop-i .i) (c .in-Continue-y .y) ∙ v .1,
       omega (arith, e .1),
       subst (Left same-state (read-type (c .args .all)) (c .in-Continue-count .count) (c .args .types) (c .in-Continue-count .after-count .now) (c .loop-i .i + 1) (c .args .types) (c .in-Continue-y .after .now))
-        (sym (take-more-set (c .loop-i .params) (c .loop-i .i) (c .in-Continue-y .y) lt))
-        (left-next same-state (read-type (c .args .all)) (c .in-Continue-count .count) (c .args .types) (c .in-Continue-count .after-count .now) (c .loop-i .i) (c .args .types) (c .loop-i .rest .now) (take (c .loop-i .i) (c .loop-i .params)) (c .in-Continue-y .y) (c .in-Continue-y .after .now) (c .loop-i-test .taken) (v .3) (e .0)),
+          (sym (take-more-set (c .loop-i .params) (c .loop-i .i) (c .in-Continue-y .y) lt))
+          (left-next same-state (read-type (c .args .all)) (c .in-Continue-count .count) (c .args .types) (c .in-Continue-count .after-count .now) (c .loop-i .i) (c .args .types) (c .loop-i .rest .now) (take (c .loop-i .i) (c .loop-i .params)) (c .in-Continue-y .y) (c .in-Continue-y .after .now) (c .loop-i-test .taken) (v .3) (e .0)),
     )
 
 pub add-i : need.add-i

@@ -21,7 +21,7 @@ returns-in-Break-entry c =
     let es = v .4 .0 in
     let at : read-entry (c .args .all) (built-in ++ es) (c .loop-i .rest .now) ≡ _ = ap (λ t. read-entry (c .args .all) t (c .loop-i .rest .now)) (sym (c .as-slice .ensures .value ∙ v .4 .1)) ∙ c .in-Break-entry .ensures tt in
     rw (p .1, p .2) (ap (λ g. then-read g (λ n r. many with-entry (read-entry (c .args .all)) n built-in r)) (n .answer .0)
-      ∙ left-fails with-entry (read-entry (c .args .all)) (c .in-Continue-count .count) built-in (c .in-Continue-count .after-count .now) (c .loop-i .i) (built-in ++ es) (c .loop-i .rest .now) es _ (c .loop-i-test .taken) (v .4 .2) at)
+    ∙ left-fails with-entry (read-entry (c .args .all)) (c .in-Continue-count .count) built-in (c .in-Continue-count .after-count .now) (c .loop-i .i) (built-in ++ es) (c .loop-i .rest .now) es _ (c .loop-i-test .taken) (v .4 .2) at)
 
 pub add-i : need.add-i
 add-i c =
@@ -41,7 +41,10 @@ loop-i-again c =
       omega (arith, e .1),
       search needs,
       omega arith,
-      (es ++ (x ∷ []), c .push-reserved .ensures .items ∙ ap (λ l. l ++ (x ∷ [])) (v .4 .1) ∙ append-assoc built-in es (x ∷ []),
-       subst (λ t. Left with-entry (read-entry (c .args .all)) (c .in-Continue-count .count) built-in (c .in-Continue-count .after-count .now) (c .loop-i .i + 1) t (c .in-Continue-entry .after .now) (es ++ (x ∷ []))) (append-assoc built-in es (x ∷ []))
-         (left-next with-entry (read-entry (c .args .all)) (c .in-Continue-count .count) built-in (c .in-Continue-count .after-count .now) (c .loop-i .i) (built-in ++ es) (c .loop-i .rest .now) es x (c .in-Continue-entry .after .now) (c .loop-i-test .taken) (v .4 .2) at)),
+      (
+        es ++ (x ∷ []),
+        c .push-reserved .ensures .items ∙ ap (λ l. l ++ (x ∷ [])) (v .4 .1) ∙ append-assoc built-in es (x ∷ []),
+        subst (λ t. Left with-entry (read-entry (c .args .all)) (c .in-Continue-count .count) built-in (c .in-Continue-count .after-count .now) (c .loop-i .i + 1) t (c .in-Continue-entry .after .now) (es ++ (x ∷ []))) (append-assoc built-in es (x ∷ []))
+            (left-next with-entry (read-entry (c .args .all)) (c .in-Continue-count .count) built-in (c .in-Continue-count .after-count .now) (c .loop-i .i) (built-in ++ es) (c .loop-i .rest .now) es x (c .in-Continue-entry .after .now) (c .loop-i-test .taken) (v .4 .2) at),
+      ),
     )

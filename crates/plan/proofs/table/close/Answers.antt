@@ -20,7 +20,7 @@ went : (c : need.In-Some)
 went c =
     let v = c .loop-i .inv in
     turn (c .loop-i .i) (c .args .nodes .now) (c .loop-i .nodes) (omega arith) (v .1) (v .3) (c .kids-of .result) (c .kids-of .ensures) (c .in-Some .end)
-      (λ ts e. sym (c .in-Some .is) ∙ c .skip .ensures ts e)
+    (λ ts e. sym (c .in-Some .is) ∙ c .skip .ensures ts e)
 
 pub cast-nodes : need.cast-nodes
 cast-nodes c =
@@ -39,7 +39,7 @@ pub returns-in-None : need.returns-in-None
 returns-in-None c =
     let v = c .loop-i .inv in
     stop (c .loop-i .i) (c .args .nodes .now) (c .loop-i .nodes) (omega arith) (v .1) (v .3) (c .kids-of .result) (c .kids-of .ensures) (λ ts e. sym (c .in-None .is) ∙ c .skip .ensures ts e)
-      (c .args .first) (omega arith)
+    (c .args .first) (omega arith)
 
 pub returns-then-first-all : need.returns-then-first-all
 returns-then-first-all c =
@@ -48,7 +48,7 @@ returns-then-first-all c =
     let ns = c .loop-i .nodes in
     let s = subst (λ k. Standing k ns) e (v .3 .stands) in
     finish (c .args .first) (c .loop-i .i) (c .args .nodes .now) ns e (v .3) _
-      (ap (eqb (row-at ns (c .args .first) .end)) (v .2) ∙ one-by-end (c .args .first) ns s (omega arith))
+    (ap (eqb (row-at ns (c .args .first) .end)) (v .2) ∙ one-by-end (c .args .first) ns s (omega arith))
 
 pub returns-else-first-all : need.returns-else-first-all
 returns-else-first-all c =
@@ -56,4 +56,4 @@ returns-else-first-all c =
     let e : c .loop-i .i ≡ c .args .first = omega arith in
     let ns = c .loop-i .nodes in
     finish (c .args .first) (c .loop-i .i) (c .args .nodes .now) ns e (v .3) _
-      (le-ltb (c .args .first) (length (c .args .nodes .now)) (omega arith) ∙ sym (none-past (c .args .first) ns (omega arith)))
+    (le-ltb (c .args .first) (length (c .args .nodes .now)) (omega arith) ∙ sym (none-past (c .args .first) ns (omega arith)))

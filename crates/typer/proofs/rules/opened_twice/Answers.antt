@@ -13,9 +13,11 @@ returns-then-scope-le-MAX-LEVELS c =
     let once = c .with .ensures in
     let twice = c .with-then-scope-le-MAX-LEVELS .ensures in
     let len = once .len in
-    let len-twice = twice .len in
-    (room-there (c .args .at) 2 s (Ok (c .args .inner ∷ c .args .outer ∷ scope-of s)) (omega arith)
-      ∙ ap Ok (ap (λ Γ. c .args .inner ∷ Γ) (sym (once .scope)) ∙ sym (twice .scope)), omega arith)
+    let len-twice = twice .len in (
+      room-there (c .args .at) 2 s (Ok (c .args .inner ∷ c .args .outer ∷ scope-of s)) (omega arith)
+          ∙ ap Ok (ap (λ Γ. c .args .inner ∷ Γ) (sym (once .scope)) ∙ sym (twice .scope)),
+      omega arith,
+    )
 
 pub returns-else-scope-le-MAX-LEVELS : need.returns-else-scope-le-MAX-LEVELS
 returns-else-scope-le-MAX-LEVELS c =

@@ -53,7 +53,7 @@ loop-kids-holds t c =
       refl,
       c .no-kids-kids .ensures .known,
       subst (λ us. Walking (world (c .args .types .now) (c .args .legs .now)) Γ ns i e us (i + 1) (vec-items (c .push-reserved .last .self)) (vec-items (c .push-reserved .last .self))) (sym (c .no-kids-kids .ensures .none))
-        (begins (world (c .args .types .now) (c .args .legs .now)) Γ ns i e (vec-items (c .push-reserved .last .self)) (s .1) (c .pre .few)),
+          (begins (world (c .args .types .now) (c .args .legs .now)) Γ ns i e (vec-items (c .push-reserved .last .self)) (s .1) (c .pre .few)),
     )
 
 pub returns-in-Break-inner : need.returns-in-Break-inner
@@ -138,7 +138,7 @@ offset-nodes-place t c =
     let lt = c .loop-kids-test .taken in
     let known = v .5 in
     let within = next (world (c .args .types .now) (c .args .legs .now)) (scope-of (c .args .scope)) ns i (term-at ns i) (kids-known (c .loop-kids .kids)) (c .loop-kids .place)
-      (vec-items (c .push-reserved .last .self)) (vec-items (c .loop-kids .levels)) (v .6) (omega arith) .within in
+    (vec-items (c .push-reserved .last .self)) (vec-items (c .loop-kids .levels)) (v .6) (omega arith) .within in
     search needs
 
 pub index-nodes-place : need.index-nodes-place
@@ -149,7 +149,7 @@ index-nodes-place t c =
     let lt = c .loop-kids-test .taken in
     let known = v .5 in
     next (world (c .args .types .now) (c .args .legs .now)) (scope-of (c .args .scope)) ns i (term-at ns i) (kids-known (c .loop-kids .kids)) (c .loop-kids .place)
-      (vec-items (c .push-reserved .last .self)) (vec-items (c .loop-kids .levels)) (v .6) (omega arith) .within
+    (vec-items (c .push-reserved .last .self)) (vec-items (c .loop-kids .levels)) (v .6) (omega arith) .within
 
 pub loop-kids-again : need.loop-kids-again
 loop-kids-again t c =
@@ -172,7 +172,7 @@ loop-kids-again t c =
     let more = c .with-kids .ensures in
     let longer = more .len in
     let grown : vec-items (c .type-of .last .levels) ≡ so-far ++ levels (length (scope-of inner)) (term-at ns (c .loop-kids .place)) =
-        one .levels ∙ ap (λ n. so-far ++ levels n (term-at ns (c .loop-kids .place))) (sym d) in (
+    one .levels ∙ ap (λ n. so-far ++ levels n (term-at ns (c .loop-kids .place))) (sym d) in (
       omega arith,
       v .1,
       v .2,
@@ -180,7 +180,7 @@ loop-kids-again t c =
       one .cap ∙ v .4,
       more .known,
       subst (λ us. Walking w Γ ns i e us (row-at ns (c .loop-kids .place) .end) start (vec-items (c .type-of .last .levels))) (sym (more .kids))
-        (goes-on w Γ ns i e us (c .loop-kids .place) start so-far (v .6) x (scope-of inner) scope-is (c .in-Continue-y .y) (vec-items (c .type-of .last .levels)) (sym (one .answer)) grown),
+          (goes-on w Γ ns i e us (c .loop-kids .place) start so-far (v .6) x (scope-of inner) scope-is (c .in-Continue-y .y) (vec-items (c .type-of .last .levels)) (sym (one .answer)) grown),
     )
 
 pub returns : need.returns
@@ -203,7 +203,7 @@ returns t c =
     record {
       answer = c .node-type .ensures ∙ ap (λ o. node-type w Γ i o us) (v .3) ∙ sym (h .checks);
       levels = made-any (c .node-type .result) (
-        h .after-is ∙ ap (λ l. l ++ h .done) pushed ∙ append-assoc (vec-items (c .args .levels .now)) (c .args .scope .len ∷ []) (h .done)
-        ∙ ap (λ n. vec-items (c .args .levels .now) ++ (n ∷ h .done)) (sym d) ∙ ap (λ l. vec-items (c .args .levels .now) ++ l) (sym (h .levels-are)) ∙ ap (λ n. vec-items (c .args .levels .now) ++ levels n e) d);
+          h .after-is ∙ ap (λ l. l ++ h .done) pushed ∙ append-assoc (vec-items (c .args .levels .now)) (c .args .scope .len ∷ []) (h .done)
+          ∙ ap (λ n. vec-items (c .args .levels .now) ++ (n ∷ h .done)) (sym d) ∙ ap (λ l. vec-items (c .args .levels .now) ++ l) (sym (h .levels-are)) ∙ ap (λ n. vec-items (c .args .levels .now) ++ levels n e) d);
       cap = v .4 ∙ c .push-reserved .ensures .capacity;
     }

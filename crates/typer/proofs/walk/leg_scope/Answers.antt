@@ -15,6 +15,7 @@ loop-k-again c =
     let full : length ps ≡ 8 = search needs in
     let lt : c .loop-k .k < length ps = search needs in
     let v = c .loop-k .inv in
-    let w = c .with-scope .ensures in
-    (w .len ∙ ap (λ n. n + 1) (v .0),
-     w .scope ∙ ap (λ Γ. getD ps (c .loop-k .k) unit-type ∷ Γ) (v .1) ∙ sym (ap (scope-on []) (take-more ps (c .loop-k .k) unit-type lt) ∙ scope-push [] (take (c .loop-k .k) ps) (getD ps (c .loop-k .k) unit-type)))
+    let w = c .with-scope .ensures in (
+      w .len ∙ ap (λ n. n + 1) (v .0),
+      w .scope ∙ ap (λ Γ. getD ps (c .loop-k .k) unit-type ∷ Γ) (v .1) ∙ sym (ap (scope-on []) (take-more ps (c .loop-k .k) unit-type lt) ∙ scope-push [] (take (c .loop-k .k) ps) (getD ps (c .loop-k .k) unit-type)),
+    )

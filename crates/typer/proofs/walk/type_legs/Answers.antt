@@ -79,8 +79,11 @@ returns-then-not-numbers-only c =
     let h = subst (λ n. At-leg w ns gs n done) k (v .1) in
     let g = getD gs (length gs - 1) no-leg in
     let x = here w ns gs (length gs - 1) done no-leg (omega arith) h in
-    record { answer = sym (main w ns gs (length gs - 1) done g h x last (c .numbers-only .result) (c .numbers-only .ensures)
-        ∙ ap (λ b. cond b (check-leg w (g .first) (leg-in ns g)) (Err (BadType (g .first)))) (c .if-not-numbers-only .taken)); levels = tt }
+    record {
+      answer = sym (main w ns gs (length gs - 1) done g h x last (c .numbers-only .result) (c .numbers-only .ensures)
+          ∙ ap (λ b. cond b (check-leg w (g .first) (leg-in ns g)) (Err (BadType (g .first)))) (c .if-not-numbers-only .taken));
+      levels = tt;
+    }
 
 pub type-leg-requires-2 : need.type-leg-requires-2
 type-leg-requires-2 c κs =
