@@ -6,4 +6,3 @@ pub mod SpanLaws
 pub mod PairLaws
 pub mod SetLaws
 pub mod SetCode
-pub mod Examples

@@ -5,15 +5,16 @@ use Prim.Native.Nat.{ℕ, zero, suc, _≤_}
 use native.Mathlib.Omega.{arith}
 use Rattle.std.proofs.shelf.Tests.{and-parts, and-from}
 use Rattle.scales.specs.Laws.{Laws, Ops, Within, ones}
-use Rattle.scales.specs.Pair.{lesser, pair-ops, side-by-side, on-each, pair-leq, pair-ceiling}
+use Rattle.scales.specs.Ends.{end-min}
+use Rattle.scales.specs.Pair.{pair-ops, side-by-side, on-each, pair-leq, pair-ceiling}
 use Rattle.scales.specs.declared.scale.Ceiling.{Ceiling}
 use Rattle.scales.specs.declared.scale.Ceiling.the-variants.{Count, Unbounded}
 use Rattle.scales.specs.declared.pair.Pair.{Pair}
 
-within-lesser : (k : ℕ) (c d : Ceiling) → Within k c → Within k d → Within k (lesser c d)
-within-lesser k (Count m) (Count n) h l = omega arith
-within-lesser k (Count m) Unbounded h l = h
-within-lesser k Unbounded d h l = l
+within-min : (k : ℕ) (c d : Ceiling) → Within k c → Within k d → Within k (end-min c d)
+within-min k (Count m) (Count n) h l = omega arith
+within-min k (Count m) Unbounded h l = h
+within-min k Unbounded d h l = l
 
 module _ {X Y : Type 0} {f : Ops X} {g : Ops Y} (P : Laws f) (Q : Laws g) where
   abbrev pair : X → Y → Pair X Y
@@ -35,7 +36,7 @@ module _ {X Y : Type 0} {f : Ops X} {g : Ops Y} (P : Laws f) (Q : Laws g) where
   ones-within : (a : Pair X Y) (k : ℕ) → pair-leq (f .leq) (g .leq) (ones (pair-ops f g) k) a ≡ true → Within k (pair-ceiling (f .ceiling) (g .ceiling) a)
   ones-within a k h =
       let h′ : pair-leq (f .leq) (g .leq) (pair (ones f k) (ones g k)) a ≡ true = subst (λ (x : Pair X Y). pair-leq (f .leq) (g .leq) x a ≡ true) (ones-pair k) h in
-      within-lesser k (f .ceiling (a .first)) (g .ceiling (a .second)) (P .ones-within (a .first) k (l _ a h′)) (Q .ones-within (a .second) k (r _ a h′))
+      within-min k (f .ceiling (a .first)) (g .ceiling (a .second)) (P .ones-within (a .first) k (l _ a h′)) (Q .ones-within (a .second) k (r _ a h′))
 
   pub pair-laws : Laws (pair-ops f g)
   pair-laws = record {

@@ -1,7 +1,7 @@
 pub mod Laws
+pub mod Ends
 pub mod Tally
 pub mod Rows
-pub mod Ends
 pub mod Span
 pub mod Pair
 pub mod Masks

@@ -1,15 +1,9 @@
 -- Two scales side by side: the operations. Assumes nothing.
 use mathlib.Core.Bool.{Bool, _&&_}
-use Prim.Native.Nat.{min}
 use Rattle.scales.specs.Laws.{Ops}
+use Rattle.scales.specs.Ends.{end-min}
 use Rattle.scales.specs.declared.scale.Ceiling.{Ceiling}
-use Rattle.scales.specs.declared.scale.Ceiling.the-variants.{Count, Unbounded}
 use Rattle.scales.specs.declared.pair.Pair.{Pair}
-
-abbrev pub lesser : Ceiling → Ceiling → Ceiling
-lesser (Count m) (Count n) = Count (min m n)
-lesser (Count m) Unbounded = Count m
-lesser Unbounded c = c
 
 abbrev pub side-by-side : {X Y : Type 0} → X → Y → Pair X Y
 side-by-side x y = record { first = x; second = y }
@@ -21,7 +15,7 @@ abbrev pub pair-leq : {X Y : Type 0} → (X → X → Bool) → (Y → Y → Boo
 pair-leq f g a b = f (a .first) (b .first) && g (a .second) (b .second)
 
 abbrev pub pair-ceiling : {X Y : Type 0} → (X → Ceiling) → (Y → Ceiling) → Pair X Y → Ceiling
-pair-ceiling f g a = lesser (f (a .first)) (g (a .second))
+pair-ceiling f g a = end-min (f (a .first)) (g (a .second))
 
 abbrev pub pair-ops : {X Y : Type 0} → Ops X → Ops Y → Ops (Pair X Y)
 pair-ops f g = record {

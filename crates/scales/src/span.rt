@@ -1,8 +1,7 @@
-// From low to high set, each end capped.
-ghost use mathlib.Core.Path.{_≡_};
+// From a low to a high number of uses. The functions stand in `ops`, below, since their contracts cite
+// definitions about this type.
 ghost use Prim.Native.Nat.{_≤_};
-ghost use Rattle.std.specs.Options.{Cases};
-ghost use Rattle.scales.specs.Ends.{size, room, Good};
+ghost use Rattle.scales.specs.Ends.{greatest, room, size};
 use crate::scale::Ceiling;
 
 pub mod ops;
@@ -11,24 +10,7 @@ pub mod ops;
 pub struct Span {
     low: u16,
     high: Ceiling,
-    ghost fits: { low ≤ 9999 },
+    ghost fits: { low ≤ greatest },
     ghost order: { low ≤ size high },
-    ghost proper: { room high ≤ 9999 },
-}
-
-impl Span {
-    // The span from low to high, where the two are ends of one.
-    pub fn new(low: u16, high: Ceiling) -> Option<Span>
-        ensures { λ r. ⌜ Cases r (Good low high → ⊥) (λ s. (s .low ≡ low) × (s .high ≡ high)) ⌝ }
-    {
-        let top = match high {
-            Ceiling::Count(n) => n,
-            Ceiling::Unbounded => 9999,
-        };
-        if low <= top && top <= 9999 {
-            Some(Span { low, high })
-        } else {
-            None
-        }
-    }
+    ghost proper: { room high ≤ greatest },
 }
