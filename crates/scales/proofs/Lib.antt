@@ -6,3 +6,4 @@ pub mod SpanLaws
 pub mod PairLaws
 pub mod SetLaws
 pub mod SetCode
+pub mod SetMembers

@@ -2,16 +2,20 @@
 use mathlib.Core.Path.{_≡_, refl, sym, ap, ap₂, _∙_, subst}
 use mathlib.Core.Bool.{Bool, true, false, cond, _&&_, _||_}
 use mathlib.Core.Logic.{_⊎_, inl, inr}
+use mathlib.Core.List.{List}
 use Prim.Native.Nat.{ℕ, zero, suc, _+_, _-_, _*_, _/_, _%_, _^_, _≤_, _<_, min, max}
 use native.Mathlib.Omega.{arith}
 use native.Mathlib.Numerals.{one-add, add-one}
 use lib.Dec.{eqb, ltb}
 use lib.Bits.{bitAnd, bitOr, or-lt, and-lt, and-mask}
 use lib.Count.{leadingZeros}
+use lib.ListN.{length, getD}
+use lib.Pow.{pow-lt}
 use Rattle.std.proofs.shelf.Bits.{shr-shr, leading-top, and-le-r}
-use Rattle.std.proofs.shelf.Tests.{eq-eqb, eqb-true, and-parts, and-from, or-cases, or-left, or-right, cases-lt, cases-eq, cond-both, both-ways, cond-true, cond-false}
-use Rattle.scales.specs.Masks.{bit, sum, repeated, product, bit-lt, sum-lt, product-lt, repeated-lt, sum-of, sum-has, product-of, product-has}
-use Rattle.scales.specs.Set.{highest, bounded}
+use Rattle.std.proofs.shelf.Tests.{eq-eqb, eqb-true, and-parts, and-from, or-cases, or-left, or-right, cases-lt, cases-eq, cases-bool, cond-both, both-ways, cond-true, cond-false}
+use Rattle.scales.specs.Masks.{bit, bit-pos, some-bit, sum, repeated, product, bit-lt, sum-lt, product-lt, repeated-lt, sum-of, sum-has, product-of, product-has}
+use Rattle.scales.specs.Set.{member, AreMembers, Holds as IsSet, highest, bounded}
+use Rattle.scales.specs.declared.set.Set.{Set}
 use Rattle.scales.proofs.SetLaws.{bit-ext, bit-and, bit-or, bool-same, zero-of, one-of, empty-of}
 
 -- `m >> n & 1`
@@ -203,3 +207,55 @@ highest-leading m p h =
 
 pub bounded-is : (m : ℕ) → 0 < m → m < 65536 → bounded (highest m 16) ≡ bounded (15 - leadingZeros 16 m)
 bounded-is m p h = ap bounded (highest-leading m p h)
+
+-- ---- members
+
+pub none-above : (a : Set) (n : ℕ) → 15 < n → member a n ≡ false
+none-above a n h = elim (cases-bool (member a n)) [ inl t ↦ absurd (let l = bit-lt 16 (a .mask) n (a .fits) t in omega arith) | inr f ↦ f ]
+
+-- a mask made from the first i numbers of a list, each at most 15
+pub record Marked (xs : List ℕ) (i m : ℕ) : Type 0 where
+  pub fits : m < 65536
+  pub small : (k : ℕ) → k < i → getD xs k 0 ≤ 15
+  pub only : (x : ℕ) → bit m x ≡ true → (k : ℕ) × (k < i) × (getD xs k 0 ≡ x)
+  pub each : (k : ℕ) → k < i → bit m (getD xs k 0) ≡ true
+
+pub marked-none : (xs : List ℕ) → Marked xs 0 0
+marked-none xs = record { fits = omega arith; small = λ k h. absurd (omega arith); only = λ x h. absurd (empty-of x h); each = λ k h. absurd (omega arith) }
+
+pow-has : (k : ℕ) → bit (2 ^ k) k ≡ true
+unfolding bit
+pow-has zero = refl
+pow-has (suc k) = subst (λ (m : ℕ). bit m k ≡ true) (let e : 2 ^ k ≡ 2 ^ suc k / 2 = omega arith in e) (pow-has k)
+
+fits-one : (x : ℕ) → x ≤ 15 → 2 ^ x < 65536
+fits-one x h = pow-lt {i = x} {j = 16} (omega arith)
+
+-- `1 << x`
+pub one-shl : (x : ℕ) → x ≤ 15 → 2 ^ x ≡ 1 * 2 ^ x % 65536
+one-shl x h = let l = fits-one x h in omega arith
+
+pub marked-more : (xs : List ℕ) (i m x : ℕ) → Marked xs i m → getD xs i 0 ≡ x → x ≤ 15 → Marked xs (i + 1) (bitOr m (2 ^ x))
+marked-more xs i m x g e h = record {
+  fits = or-lt 16 m (2 ^ x) (g .fits) (fits-one x h);
+  small = λ k l. elim (cases-eq k i) [ inl q ↦ omega (arith, ap (λ j. getD xs j 0) q) | inr d ↦ g .small k (omega arith) ];
+  only = λ y b. elim (or-cases (bit m y) (bit (2 ^ x) y) (sym (bit-or m (2 ^ x) y) ∙ b)) [
+    | inl p ↦ (let r = g .only y p in (r .0, omega (arith, r .1), r .2))
+    | inr p ↦ (i, omega arith, e ∙ sym (pow-of x y p))
+  ];
+  each = λ k l. bit-or m (2 ^ x) (getD xs k 0) ∙ elim (cases-eq k i) [
+    | inl q ↦ or-right (bit m (getD xs k 0)) (bit (2 ^ x) (getD xs k 0)) (move (2 ^ x) x (getD xs k 0) (sym (ap (λ j. getD xs j 0) q ∙ e)) (pow-has x))
+    | inr d ↦ or-left (bit m (getD xs k 0)) (bit (2 ^ x) (getD xs k 0)) (g .each k (omega arith))
+  ];
+}
+
+pub marked-set : (xs : List ℕ) (i : ℕ) (a : Set) → i ≡ length xs → Marked xs i (a .mask) → AreMembers xs × IsSet a xs
+marked-set xs i a e g =
+    let s = some-bit 16 (a .mask) (a .fits) (a .some) in
+    let r = g .only (s .0) (s .1) in (
+      record { some = omega (arith, r .1); small = λ k h. g .small k (omega arith) },
+      record { only = λ x h. let t = g .only x h in (t .0, omega (arith, t .1), t .2); each = λ k h. g .each k (omega arith) },
+    )
+
+pub marked-nothing : (xs : List ℕ) (i m : ℕ) → i ≡ length xs → m ≤ 0 → Marked xs i m → AreMembers xs → ⊥
+marked-nothing xs i m e z g s = let p = bit-pos m (getD xs 0 0) (g .each 0 (omega (arith, s .some))) in omega arith

@@ -35,7 +35,7 @@ bool-same true b f g = sym (f refl)
 bool-same false true f g = g refl
 bool-same false false f g = refl
 
-abbrev Has : Set → ℕ → Type 0
+abbrev pub Has : Set → ℕ → Type 0
 Has a x = bit (a .mask) x ≡ true
 
 pub set-same : (a b : Set) → a .mask ≡ b .mask → a ≡ b
@@ -45,34 +45,34 @@ set-same a b p = λ i. record {
   fits = isProp→PathP (λ k. p k < 65536) (λ k. le-prop) (a .fits) (b .fits) i;
 }
 
-ext : (a b : Set) → ((x : ℕ) → Has a x → Has b x) → ((x : ℕ) → Has b x → Has a x) → a ≡ b
+pub ext : (a b : Set) → ((x : ℕ) → Has a x → Has b x) → ((x : ℕ) → Has b x → Has a x) → a ≡ b
 ext a b f g = set-same a b (bit-ext 16 (a .mask) (b .mask) (a .fits) (b .fits) (λ x h. bool-same (bit (a .mask) x) (bit (b .mask) x) (f x) (g x)))
 
-has-lt : (a : Set) (x : ℕ) → Has a x → x < 16
+pub has-lt : (a : Set) (x : ℕ) → Has a x → x < 16
 has-lt a x h = bit-lt 16 (a .mask) x (a .fits) h
 
-has-some : (a : Set) → (x : ℕ) × Has a x
+pub has-some : (a : Set) → (x : ℕ) × Has a x
 has-some a = some-bit 16 (a .mask) (a .fits) (a .some)
 
 -- ---- members of each operation
 
-plus-of : (a b : Set) (x : ℕ) → Has (set-plus a b) x → (p : ℕ) × (q : ℕ) × Has a p × Has b q × (x ≡ min (p + q) 15)
+pub plus-of : (a b : Set) (x : ℕ) → Has (set-plus a b) x → (p : ℕ) × (q : ℕ) × Has a p × Has b q × (x ≡ min (p + q) 15)
 plus-of a b x h = sum-of (a .mask) (b .mask) x h
 
-plus-has : (a b : Set) (p q x : ℕ) → Has a p → Has b q → x ≡ min (p + q) 15 → Has (set-plus a b) x
+pub plus-has : (a b : Set) (p q x : ℕ) → Has a p → Has b q → x ≡ min (p + q) 15 → Has (set-plus a b) x
 plus-has a b p q x hp hq e = subst (λ (y : ℕ). Has (set-plus a b) y) (sym e) (sum-has (a .mask) (b .mask) p q (a .fits) (b .fits) hp hq)
 
-times-of : (a b : Set) (x : ℕ) → Has (set-times a b) x → (n : ℕ) × Has a n × Has (set-repeated b n) x
+pub times-of : (a b : Set) (x : ℕ) → Has (set-times a b) x → (n : ℕ) × Has a n × Has (set-repeated b n) x
 times-of a b x h = product-of (a .mask) (b .mask) x h
 
-times-has : (a b : Set) (n x : ℕ) → Has a n → Has (set-repeated b n) x → Has (set-times a b) x
+pub times-has : (a b : Set) (n x : ℕ) → Has a n → Has (set-repeated b n) x → Has (set-times a b) x
 times-has a b n x h k = product-has (a .mask) (b .mask) n x (a .fits) h k
 
-zero-has : Has set-zero 0
+pub zero-has : Has set-zero 0
 unfolding bit
 zero-has = refl
 
-one-has : Has set-one 1
+pub one-has : Has set-one 1
 unfolding bit
 one-has = refl
 
@@ -121,11 +121,11 @@ plus-mid a b c d =
 
 -- ---- a set summed n times
 
-repeated-zero : (k : Set) → set-repeated k 0 ≡ set-zero
+pub repeated-zero : (k : Set) → set-repeated k 0 ≡ set-zero
 unfolding repeated
 repeated-zero k = set-same (set-repeated k 0) set-zero refl
 
-repeated-suc : (k : Set) (n : ℕ) → set-repeated k (suc n) ≡ set-plus k (set-repeated k n)
+pub repeated-suc : (k : Set) (n : ℕ) → set-repeated k (suc n) ≡ set-plus k (set-repeated k n)
 unfolding repeated
 repeated-suc k n = set-same (set-repeated k (suc n)) (set-plus k (set-repeated k n)) refl
 
@@ -199,13 +199,13 @@ repeated-plus b c (suc n) =
     repeated-suc (set-plus b c) n ∙ ap (set-plus (set-plus b c)) (repeated-plus b c n) ∙ plus-mid b c (set-repeated b n) (set-repeated c n)
     ∙ sym (ap₂ set-plus (repeated-suc b n) (repeated-suc c n))
 
-repeated-1-of : (n x : ℕ) → Has (set-repeated set-one n) x → x ≡ min n 15
-repeated-1-of zero x h = zero-of x (subst (λ (s : Set). Has s x) (repeated-zero set-one) h)
-repeated-1-of (suc n) x h = let r = repeated-of set-one n x h in omega (arith, r .4, one-of (r .0) (r .2), repeated-1-of n (r .1) (r .3))
+repeated-one-of : (n x : ℕ) → Has (set-repeated set-one n) x → x ≡ min n 15
+repeated-one-of zero x h = zero-of x (subst (λ (s : Set). Has s x) (repeated-zero set-one) h)
+repeated-one-of (suc n) x h = let r = repeated-of set-one n x h in omega (arith, r .4, one-of (r .0) (r .2), repeated-one-of n (r .1) (r .3))
 
-repeated-1-has : (n : ℕ) → Has (set-repeated set-one n) (min n 15)
-repeated-1-has zero = subst (λ (s : Set). Has s 0) (sym (repeated-zero set-one)) zero-has
-repeated-1-has (suc n) = repeated-has set-one n 1 (min n 15) (min (suc n) 15) one-has (repeated-1-has n) (omega arith)
+pub repeated-one-has : (n : ℕ) → Has (set-repeated set-one n) (min n 15)
+repeated-one-has zero = subst (λ (s : Set). Has s 0) (sym (repeated-zero set-one)) zero-has
+repeated-one-has (suc n) = repeated-has set-one n 1 (min n 15) (min (suc n) 15) one-has (repeated-one-has n) (omega arith)
 
 -- ---- products
 
@@ -233,8 +233,8 @@ one-times b =
 times-one : (a : Set) → set-times a set-one ≡ a
 times-one a =
     ext (set-times a set-one) a
-    (λ x h. let r = times-of a set-one x h in subst (λ (y : ℕ). Has a y) (omega (arith, repeated-1-of (r .0) x (r .2), has-lt a (r .0) (r .1))) (r .1))
-    (λ x h. times-has a set-one x x h (subst (λ (y : ℕ). Has (set-repeated set-one x) y) (omega (arith, has-lt a x h)) (repeated-1-has x)))
+    (λ x h. let r = times-of a set-one x h in subst (λ (y : ℕ). Has a y) (omega (arith, repeated-one-of (r .0) x (r .2), has-lt a (r .0) (r .1))) (r .1))
+    (λ x h. times-has a set-one x x h (subst (λ (y : ℕ). Has (set-repeated set-one x) y) (omega (arith, has-lt a x h)) (repeated-one-has x)))
 
 repeated-sum : (c : Set) (n m : ℕ) → set-repeated c (min (n + m) 15) ≡ set-plus (set-repeated c n) (set-repeated c m)
 repeated-sum c n m = repeated-min c (n + m) ∙ repeated-add c n m
@@ -303,12 +303,12 @@ bit-or m k (suc x) =
     let e : bitOr m k / 2 ≡ bitOr (m / 2) (k / 2) = omega (arith, or-step m k) in
     ap (λ n. bit n x) e ∙ bit-or (m / 2) (k / 2) x
 
-below-sub : (a b : Set) → set-leq a b ≡ true → (x : ℕ) → Has a x → Has b x
+pub below-sub : (a b : Set) → set-leq a b ≡ true → (x : ℕ) → Has a x → Has b x
 below-sub a b h x p =
     let e : bitAnd (a .mask) (b .mask) ≡ a .mask = eqb-true (bitAnd (a .mask) (b .mask)) (a .mask) h in
     and-parts (bit (a .mask) x) (bit (b .mask) x) (sym (bit-and (a .mask) (b .mask) x) ∙ ap (λ n. bit n x) e ∙ p) .1
 
-sub-below : (a b : Set) → ((x : ℕ) → Has a x → Has b x) → set-leq a b ≡ true
+pub sub-below : (a b : Set) → ((x : ℕ) → Has a x → Has b x) → set-leq a b ≡ true
 sub-below a b f =
     eq-eqb (bitAnd (a .mask) (b .mask)) (a .mask)
     (bit-ext 16 (bitAnd (a .mask) (b .mask)) (a .mask) (and-lt 16 (a .mask) (b .mask) (a .fits) (b .fits)) (a .fits)
@@ -316,7 +316,7 @@ sub-below a b f =
     (λ t. and-parts (bit (a .mask) x) (bit (b .mask) x) (sym (bit-and (a .mask) (b .mask) x) ∙ t) .0)
     (λ t. bit-and (a .mask) (b .mask) x ∙ and-from (bit (a .mask) x) (bit (b .mask) x) t (f x t))))
 
-join-of : (a b : Set) (x : ℕ) → Has (set-join a b) x → Has a x ⊎ Has b x
+pub join-of : (a b : Set) (x : ℕ) → Has (set-join a b) x → Has a x ⊎ Has b x
 join-of a b x h = or-cases (bit (a .mask) x) (bit (b .mask) x) (sym (bit-or (a .mask) (b .mask) x) ∙ h)
 
 join-least : (a b c : Set) → set-leq a c ≡ true → set-leq b c ≡ true → set-leq (set-join a b) c ≡ true
@@ -334,20 +334,20 @@ times-plus a b c x h =
 
 -- ---- the ceiling
 
-highest-ge : (m n x : ℕ) → x < n → bit m x ≡ true → x ≤ highest m n
+pub highest-ge : (m n x : ℕ) → x < n → bit m x ≡ true → x ≤ highest m n
 unfolding highest
 highest-ge m zero x h p = absurd (omega arith)
 highest-ge m (suc n) x h p =
     cond-both (bit m n) n (highest m n) (λ y. x ≤ y) (λ e. omega arith)
     (λ e. elim (cases-eq x n) [ inl q ↦ absurd (both-ways (bit m n) e (subst (λ (y : ℕ). bit m y ≡ true) q p)) | inr d ↦ highest-ge m n x (omega arith) p ])
 
-ones-repeated : (k : ℕ) → ones set-ops k ≡ set-repeated set-one k
+pub ones-repeated : (k : ℕ) → ones set-ops k ≡ set-repeated set-one k
 ones-repeated zero = sym (repeated-zero set-one)
 ones-repeated (suc k) = ap (set-plus set-one) (ones-repeated k) ∙ sym (repeated-suc set-one k)
 
 ones-within : (a : Set) (k : ℕ) → set-leq (ones set-ops k) a ≡ true → Within k (set-ceiling a)
 ones-within a k h =
-    let p : Has a (min k 15) = below-sub (ones set-ops k) a h (min k 15) (at (set-repeated set-one k) (ones set-ops k) (min k 15) (sym (ones-repeated k)) (repeated-1-has k)) in
+    let p : Has a (min k 15) = below-sub (ones set-ops k) a h (min k 15) (at (set-repeated set-one k) (ones set-ops k) (min k 15) (sym (ones-repeated k)) (repeated-one-has k)) in
     let q : min k 15 ≤ highest (a .mask) 16 = highest-ge (a .mask) 16 (min k 15) (omega arith) p in
     cond-both (ltb (highest (a .mask) 16) 15) (Count (highest (a .mask) 16)) Unbounded (λ c. Within k c) (λ e. omega (arith, ltb-true (highest (a .mask) 16) 15 e)) (λ e. tt)
 

@@ -4,7 +4,7 @@ use mathlib.Core.Bool.{Bool, true, false}
 use Prim.Native.Nat.{ℕ, zero, suc, _≤_}
 use native.Mathlib.Omega.{arith}
 use lib.Dec.{lit≤}
-use Rattle.scales.specs.Laws.{Laws, Within, ones}
+use Rattle.scales.specs.Laws.{Laws, Within, ones, ExactlyOne}
 use Rattle.scales.specs.Tally.{tally-ops, tally-plus, tally-times, tally-leq, tally-join, tally-ceiling}
 use Rattle.scales.specs.declared.tally.Tally.{Tally}
 use Rattle.scales.specs.declared.tally.Tally.the-variants.{Zero, One, Many}
@@ -48,3 +48,8 @@ tally-laws = record {
   join-least = λ a b c h k. grind arith;
   ones-within = ones-within;
 }
+
+pub tally-exact : ExactlyOne tally-ops
+tally-exact zero h = grind arith
+tally-exact (suc zero) h = refl
+tally-exact (suc (suc k)) h = let e = two-ones k in grind arith

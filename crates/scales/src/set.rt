@@ -1,4 +1,5 @@
-// A nonempty set of numbers of set, 0 to 15, where 15 stands for 15 or more.
+// A nonempty set of numbers of uses, 0 to 15, where 15 stands for 15 or more. The functions stand in
+// `ops`, below, since their contracts cite definitions about this type.
 ghost use Prim.Native.Nat.{_<_};
 
 pub mod ops;

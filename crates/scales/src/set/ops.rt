@@ -1,52 +1,87 @@
+// Sets of numbers of uses. A set is kept as a mask: bit n stands if n is a member.
 ghost use mathlib.Core.Path.{_≡_};
 ghost use Prim.Native.Nat.{_<_};
+ghost use Rattle.std.specs.Options.{Cases};
 ghost use Rattle.scales.specs.Masks.{bit, sum, product};
-ghost use Rattle.scales.specs.Set.{set-ops};
+ghost use Rattle.scales.specs.Set.{set-ops, member, AreMembers, ByMembers, Holds};
 use super::Set;
 use crate::scale::Ceiling;
 use crate::scale::Scale;
 
-fn has(m: u16, n: u32) -> bool
+// The highest member, which stands for itself and for all above.
+pub const TOP: u16 = 15;
+
+fn has(mask: u16, n: u16) -> bool
     requires { ⌜ n < 16 ⌝ }
-    ensures { λ r. ⌜ r ≡ bit m n ⌝ }
+    ensures { λ r. ⌜ r ≡ bit mask n ⌝ }
 {
-    (m >> n) & 1 == 1
+    (mask >> n) & 1 == 1
 }
 
 // One more than each member, at most 15.
-fn next(m: u16) -> u16
-    ensures { λ r. ⌜ r ≡ sum 2 m ⌝ }
+fn next(mask: u16) -> u16
+    ensures { λ r. ⌜ r ≡ sum 2 mask ⌝ }
 {
-    ((m & 0x7fff) << 1) | (m & 0x8000)
+    ((mask & 0x7fff) << 1) | (mask & 0x8000)
 }
 
+// `raised` holds the members of `b`, each n more.
 fn sum_of(a: u16, b: u16) -> u16
     ensures { λ r. ⌜ r ≡ sum a b ⌝ }
 {
     let mut all: u16 = 0;
-    let mut power = b;
+    let mut raised = b;
     for n in 0..16 {
         if has(a, n) {
-            all |= power;
+            all |= raised;
         }
-        power = next(power);
+        raised = next(raised);
     }
     all
 }
 
+// `repeated` holds `b` summed n times.
 fn product_of(a: u16, b: u16) -> u16
     ensures { λ r. ⌜ r ≡ product a b ⌝ }
 {
     let mut all: u16 = 0;
-    let mut power: u16 = 1;
+    let mut repeated: u16 = 1;
     for n in 0..16 {
         if has(a, n) {
-            all |= power;
+            all |= repeated;
         }
-        power = sum_of(b, power);
+        repeated = sum_of(b, repeated);
     }
     all
 }
+
+impl Set {
+    // The set of these members; refused exactly if there are none, or one is above 15.
+    pub fn new(members: &[u16]) -> Option<Set>
+        ensures { λ r. ⌜ Cases r (AreMembers (now (members .entry)) → ⊥) (λ s. AreMembers (now (members .entry)) × Holds s (now (members .entry))) ⌝ }
+    {
+        let mut mask: u16 = 0;
+        for n in members {
+            if *n > TOP {
+                return None;
+            }
+            mask |= 1 << *n;
+        }
+        if mask > 0 { Some(Set { mask }) } else { None }
+    }
+
+    // Whether n is a member; no number above 15 is one.
+    pub fn contains(self, n: u16) -> bool
+        ensures { λ r. ⌜ r ≡ member self n ⌝ }
+    {
+        n <= TOP && has(self.mask, n)
+    }
+}
+
+// What the operations are, by members alone.
+pub fn by_members()
+    ensures { λ _. ⌜ ByMembers ⌝ }
+{}
 
 pub impl Scale for Set as SetScale {
     ghost ops = { set-ops };
@@ -82,9 +117,9 @@ pub impl Scale for Set as SetScale {
     }
 
     fn ceiling(self) -> Ceiling {
-        let top = 15 - self.mask.leading_zeros();
-        if top < 15 {
-            Ceiling::Count(top as u16)
+        let top = TOP - self.mask.leading_zeros() as u16;
+        if top < TOP {
+            Ceiling::Count(top)
         } else {
             Ceiling::Unbounded
         }

@@ -3,4 +3,4 @@ use Rattle.scales.proofs.SetCode.{stepped-is}
 use Rattle.scales.proofs.set.ops.next.Needs as need
 
 pub returns : need.returns
-returns c = stepped-is (c .args .m) (omega arith)
+returns c = stepped-is (c .args .mask) (omega arith)

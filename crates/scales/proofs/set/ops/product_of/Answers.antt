@@ -11,10 +11,10 @@ loop-n-holds c = (gathered-none (c .args .a) (Repeated (c .args .b)), counted-no
 pub loop-n-again : need.loop-n-again
 loop-n-again c = (
   elim (c .if-has .came) [
-    | then-has w ↦ subst (λ (k : ℕ). Gathered (c .args .a) (Repeated (c .args .b)) (c .loop-n .n + 1) k) (sym (w .all-is)) (gathered-take (c .args .a) (Repeated (c .args .b)) (c .loop-n .n) (c .loop-n .all) (c .loop-n .power) (c .loop-n .inv .0) (sym (c .has .ensures) ∙ w .if-has .taken) (counted (c .args .b) (c .loop-n .n) (c .loop-n .power) (c .loop-n .inv .1)))
+    | then-has w ↦ subst (λ (k : ℕ). Gathered (c .args .a) (Repeated (c .args .b)) (c .loop-n .n + 1) k) (sym (w .all-is)) (gathered-take (c .args .a) (Repeated (c .args .b)) (c .loop-n .n) (c .loop-n .all) (c .loop-n .repeated) (c .loop-n .inv .0) (sym (c .has .ensures) ∙ w .if-has .taken) (counted (c .args .b) (c .loop-n .n) (c .loop-n .repeated) (c .loop-n .inv .1)))
     | else-has w ↦ subst (λ (k : ℕ). Gathered (c .args .a) (Repeated (c .args .b)) (c .loop-n .n + 1) k) (sym (w .all-is)) (gathered-skip (c .args .a) (Repeated (c .args .b)) (c .loop-n .n) (c .loop-n .all) (c .loop-n .inv .0) (sym (c .has .ensures) ∙ w .if-has .left))
   ],
-  counted-more (c .args .b) (c .loop-n .n) (c .loop-n .power) _ (c .loop-n .inv .1) (c .sum-of-power .ensures),
+  counted-more (c .args .b) (c .loop-n .n) (c .loop-n .repeated) _ (c .loop-n .inv .1) (c .sum-of-repeated .ensures),
 )
 
 pub returns : need.returns

@@ -4,4 +4,4 @@ use Rattle.scales.proofs.SetCode.{Gathered, Repeated}
 use Rattle.scales.proofs.set.ops.product_of.Given as given
 
 abbrev pub Inv-loop-n : given.InvT-loop-n
-Inv-loop-n l = Gathered (l .a) (Repeated (l .b)) (l .n) (l .all) × (l .power ≡ repeated (l .b) (l .n))
+Inv-loop-n l = Gathered (l .a) (Repeated (l .b)) (l .n) (l .all) × (l .repeated ≡ repeated (l .b) (l .n))

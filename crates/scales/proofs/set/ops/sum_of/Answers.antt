@@ -11,10 +11,10 @@ loop-n-holds c = (gathered-none (c .args .a) (Raised (c .args .b)), raised-none 
 pub loop-n-again : need.loop-n-again
 loop-n-again c = (
   elim (c .if-has .came) [
-    | then-has w ↦ subst (λ (k : ℕ). Gathered (c .args .a) (Raised (c .args .b)) (c .loop-n .n + 1) k) (sym (w .all-is)) (gathered-take (c .args .a) (Raised (c .args .b)) (c .loop-n .n) (c .loop-n .all) (c .loop-n .power) (c .loop-n .inv .0) (sym (c .has .ensures) ∙ w .if-has .taken) (c .loop-n .inv .1))
+    | then-has w ↦ subst (λ (k : ℕ). Gathered (c .args .a) (Raised (c .args .b)) (c .loop-n .n + 1) k) (sym (w .all-is)) (gathered-take (c .args .a) (Raised (c .args .b)) (c .loop-n .n) (c .loop-n .all) (c .loop-n .raised) (c .loop-n .inv .0) (sym (c .has .ensures) ∙ w .if-has .taken) (c .loop-n .inv .1))
     | else-has w ↦ subst (λ (k : ℕ). Gathered (c .args .a) (Raised (c .args .b)) (c .loop-n .n + 1) k) (sym (w .all-is)) (gathered-skip (c .args .a) (Raised (c .args .b)) (c .loop-n .n) (c .loop-n .all) (c .loop-n .inv .0) (sym (c .has .ensures) ∙ w .if-has .left))
   ],
-  subst (λ (p : ℕ). Holds (Raised (c .args .b)) (c .loop-n .n + 1) p) (sym (c .next-power .ensures)) (raised-more (c .args .b) (c .loop-n .n) (c .loop-n .power) (c .loop-n .inv .1)),
+  subst (λ (p : ℕ). Holds (Raised (c .args .b)) (c .loop-n .n + 1) p) (sym (c .next-raised .ensures)) (raised-more (c .args .b) (c .loop-n .n) (c .loop-n .raised) (c .loop-n .inv .1)),
 )
 
 pub returns : need.returns
