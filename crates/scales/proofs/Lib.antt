@@ -1,9 +1,10 @@
 pub mod TallyLaws
-pub mod Regroup
-pub mod ZipWith
+pub mod RowLists
+pub mod RowTheorems
 pub mod Saturated
 pub mod SpanLaws
 pub mod PairLaws
 pub mod SetLaws
 pub mod SetCode
 pub mod SetMembers
+pub mod WorkedOut

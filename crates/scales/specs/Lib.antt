@@ -6,3 +6,4 @@ pub mod Span
 pub mod Pair
 pub mod Masks
 pub mod Set
+pub mod Examples

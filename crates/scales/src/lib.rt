@@ -7,3 +7,4 @@ pub mod scale;
 pub mod set;
 pub mod span;
 pub mod tally;
+pub mod theorems;
