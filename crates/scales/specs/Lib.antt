@@ -7,3 +7,4 @@ pub mod Pair
 pub mod Masks
 pub mod Set
 pub mod Examples
+pub mod Text

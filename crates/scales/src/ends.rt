@@ -1,7 +1,10 @@
 // The high end of a span: a count up to 9,999, or infinity.
 ghost use mathlib.Core.Path.{_≡_};
+ghost use Rattle.scales.specs.Text.{ceiling-text};
+ghost use Rattle.std.specs.declared.option.Option.the-variants.{Some};
 ghost use Rattle.scales.specs.Ends.{capped, end-plus, end-times, end-leq, end-max, end-min};
 use crate::scale::Ceiling;
+use std::fmt;
 
 // The greatest count that an end can be.
 pub const TOP: u16 = 9_999;
@@ -63,5 +66,16 @@ pub(crate) fn smaller(a: Ceiling, b: Ceiling) -> Ceiling
         (Ceiling::Count(m), Ceiling::Count(n)) => Ceiling::Count(m.min(n)),
         (Ceiling::Count(m), Ceiling::Unbounded) => Ceiling::Count(m),
         (Ceiling::Unbounded, c) => c,
+    }
+}
+
+pub impl fmt::Display for Ceiling as CeilingDisplay {
+    ghost shown = { λ c. Some (ceiling-text c) };
+
+    fn fmt<W: fmt::Write>(&self, f: &mut fmt::Formatter<W>) -> fmt::Result {
+        match self {
+            Ceiling::Count(n) => write!(f, "{n}"),
+            Ceiling::Unbounded => f.write_str("inf"),
+        }
     }
 }

@@ -1,9 +1,12 @@
-ghost use mathlib.Core.Path.{_≡_};
+// None, one, or many: the coarsest scale. Only none and one lie below many, so their join is many.
 ghost use Rattle.scales.specs.Tally.{tally-ops};
+ghost use Rattle.scales.specs.Text.{tally-text};
+ghost use Rattle.std.specs.declared.option.Option.the-variants.{Some};
 use crate::scale::Ceiling;
 use crate::scale::Scale;
+use std::fmt;
 
-#[derive(Clone, Copy, PartialEq, Eq)]
+#[derive(Clone, Copy, PartialEq, Eq, Debug)]
 pub enum Tally {
     Zero,
     One,
@@ -61,6 +64,18 @@ pub impl Scale for Tally as TallyScale {
             Tally::Zero => Ceiling::Count(0),
             Tally::One => Ceiling::Count(1),
             Tally::Many => Ceiling::Unbounded,
+        }
+    }
+}
+
+pub impl fmt::Display for Tally as TallyDisplay {
+    ghost shown = { λ t. Some (tally-text t) };
+
+    fn fmt<W: fmt::Write>(&self, f: &mut fmt::Formatter<W>) -> fmt::Result {
+        match self {
+            Tally::Zero => f.write_str("none"),
+            Tally::One => f.write_str("one"),
+            Tally::Many => f.write_str("many"),
         }
     }
 }
