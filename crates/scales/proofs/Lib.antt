@@ -8,3 +8,4 @@ pub mod SetLaws
 pub mod SetCode
 pub mod SetMembers
 pub mod WorkedOut
+pub mod SetText

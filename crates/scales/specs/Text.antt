@@ -31,7 +31,7 @@ comma [] = []
 comma (c ∷ cs) = codes ","
 
 -- the members below n, from the least, with commas between them
-abbrev pub listed : Set → ℕ → List ℕ
+unfoldable pub listed : Set → ℕ → List ℕ
 listed s zero = []
 listed s (suc n) = listed s n ++ cond (member s n) (comma (listed s n) ++ decimal n) []
 

@@ -2,11 +2,15 @@
 ghost use mathlib.Core.Path.{_≡_};
 ghost use Prim.Native.Nat.{_<_};
 ghost use Rattle.std.specs.Options.{Cases};
+ghost use Rattle.std.specs.Written.{Prints};
+ghost use Rattle.std.specs.declared.option.Option.the-variants.{Some};
+ghost use Rattle.scales.specs.Text.{listed, set-text};
 ghost use Rattle.scales.specs.Masks.{bit, sum, product};
 ghost use Rattle.scales.specs.Set.{set-ops, member, AreMembers, ByMembers, Holds};
 use super::Set;
 use crate::scale::Ceiling;
 use crate::scale::Scale;
+use std::fmt;
 
 // The highest member, which stands for itself and for all above.
 pub const TOP: u16 = 15;
@@ -123,5 +127,29 @@ pub impl Scale for Set as SetScale {
         } else {
             Ceiling::Unbounded
         }
+    }
+}
+
+// The members from the least, with commas between them.
+fn write_members<W: fmt::Write>(set: Set, f: &mut fmt::Formatter<W>) -> fmt::Result
+    ensures { λ r. ⌜ Prints took (now (f .entry)) r (listed set 16) (now (f .exit)) ⌝ }
+{
+    let mut separator = "";
+    for n in 0..16 {
+        if set.contains(n) {
+            write!(f, "{separator}{n}")?;
+            separator = ",";
+        }
+    }
+    Ok(())
+}
+
+pub impl fmt::Display for Set as SetDisplay {
+    ghost shown = { λ s. Some (set-text s) };
+
+    fn fmt<W: fmt::Write>(&self, f: &mut fmt::Formatter<W>) -> fmt::Result {
+        f.write_str("{")?;
+        write_members(*self, f)?;
+        f.write_str("}")
     }
 }
