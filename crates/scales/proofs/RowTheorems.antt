@@ -8,7 +8,7 @@ use lib.ListN.{length, take, getD, replicate}
 use Rattle.std.proofs.shelf.Lists.{take-more}
 use Rattle.std.proofs.shelf.Tests.{and-parts, and-from, both-ways}
 use Rattle.scales.specs.Laws.{Ops, Laws}
-use Rattle.scales.specs.Rows.{zipInto, row-plus, row-join, row-times, row-zero, row-leq, total, RowLaws, Regroups, Totals}
+use Rattle.scales.specs.Rows.{zipInto, row-plus, row-join, row-times, row-zero, row-leq, total, RowLaws, Regroups, Swaps}
 
 module _ {S : Type 0} {o : Ops S} (L : Laws o) where
   -- sum keeps the order in its second argument too
@@ -186,14 +186,8 @@ module _ {S : Type 0} {o : Ops S} (L : Laws o) where
       let pushed : take (i + 1) xs ≡ take i xs ++ (x ∷ []) = take-more xs i x within ∙ ap (λ y. take i xs ++ (y ∷ [])) (sym read) in
       sym (ap (total o) pushed ∙ total-append (take i xs) (x ∷ []) ∙ ap (o .plus (total o (take i xs))) (zero-plus x))
 
-  pub total-plus : (xs ys : List S) → length xs ≡ length ys → total o (row-plus o xs ys) ≡ o .plus (total o xs) (total o ys)
-  total-plus [] [] e = sym (L .plus-zero (o .zero))
-  total-plus [] (y ∷ ys) e = absurd (omega arith)
-  total-plus (x ∷ xs) [] e = absurd (omega arith)
-  total-plus (x ∷ xs) (y ∷ ys) e = ap (o .plus (o .plus x y)) (total-plus xs ys (omega arith)) ∙ regroup x y (total o xs) (total o ys)
-
 pub regroups : Regroups
 regroups S = regroup (S .laws)
 
-pub totals : Totals
-totals S = total-plus (S .laws)
+pub swaps : Swaps
+swaps S xs ys = let L = S .laws in total-append L xs ys ∙ L .plus-comm (total (S .ops) xs) (total (S .ops) ys) ∙ sym (total-append L ys xs)
