@@ -1,12 +1,12 @@
 -- Rows as lists: what `zipInto` and `row-leq` are at each place.
 use mathlib.Core.Path.{_≡_, refl, sym, ap, ap₂, _∙_}
 use mathlib.Core.Bool.{Bool, true, false, _&&_}
-use mathlib.Core.List.{List, [], _∷_, _++_, map, append-nil}
+use mathlib.Core.List.{List, [], _∷_, map}
 use mathlib.Core.Logic.{inl, inr}
 use Prim.Native.Nat.{ℕ, zero, suc, _<_, _≤_, min}
 use native.Mathlib.Omega.{arith}
-use lib.ListN.{length, getD, take, drop}
-use Rattle.std.proofs.shelf.Lists.{same-lists, take-all, drop-all}
+use lib.ListN.{length, getD}
+use Rattle.std.proofs.shelf.Lists.{same-lists}
 use Rattle.std.proofs.shelf.Tests.{and-parts, and-from, and-left, and-right, both-ways, cases-lt}
 use Rattle.scales.specs.Laws.{Ops}
 use Rattle.scales.specs.Rows.{zipInto, row-leq, RowLeq}
@@ -40,8 +40,20 @@ zip-places f xs ys zs n m e at past =
       | inr h ↦ past k d h ∙ sym (getD-zip-past f xs ys k d (omega arith))
     ])
 
-pub map-end : {X : Type 0} (f : X → X) (xs ys : List X) (i : ℕ) → length xs ≤ i → ys ≡ map f (take i xs) ++ drop i xs → ys ≡ map f xs
-map-end f xs ys i h e = let t = take-all i xs h in let d = drop-all i xs h in e ∙ rw (t, d) (append-nil (map f xs))
+length-map : {X : Type 0} (f : X → X) (xs : List X) → length (map f xs) ≡ length xs
+length-map f [] = refl
+length-map f (x ∷ xs) = ap suc (length-map f xs)
+
+getD-map : {X : Type 0} (f : X → X) (xs : List X) (k : ℕ) (d : X) → k < length xs → getD (map f xs) k d ≡ f (getD xs k d)
+getD-map f [] k d h = absurd (omega arith)
+getD-map f (x ∷ xs) zero d h = refl
+getD-map f (x ∷ xs) (suc k) d h = getD-map f xs k d (omega arith)
+
+-- a loop over all places leaves `map`
+pub map-places : {X : Type 0} (f : X → X) (xs zs : List X) → length zs ≡ length xs
+    → ((k : ℕ) (d : X) → k < length xs → getD zs k d ≡ f (getD xs k d)) → zs ≡ map f xs
+map-places f xs zs e at =
+    same-lists zs (map f xs) (e ∙ sym (length-map f xs)) (λ k d lt. at k d (omega arith) ∙ sym (getD-map f xs k d (omega arith)))
 
 -- ---- order
 

@@ -2,11 +2,10 @@
 ghost use mathlib.Core.Path.{_≡_};
 ghost use Prim.Native.Nat.{_<_};
 ghost use Rattle.std.specs.Options.{Cases};
-ghost use Rattle.std.specs.Written.{Prints};
 ghost use Rattle.std.specs.declared.option.Option.the-variants.{Some};
 ghost use Rattle.scales.specs.Text.{listed, set-text};
 ghost use Rattle.scales.specs.Masks.{bit, sum, product};
-ghost use Rattle.scales.specs.Set.{set-ops, member, AreMembers, ByMembers, Holds};
+ghost use Rattle.scales.specs.Set.{set-ops, set-plus, set-times, member, AreMembers, ByMembers, Holds};
 use super::Set;
 use crate::scale::Ceiling;
 use crate::scale::Scale;
@@ -30,7 +29,7 @@ fn next(mask: u16) -> u16
 }
 
 // `raised` holds the members of `b`, each n more.
-fn sum_of(a: u16, b: u16) -> u16
+fn sum_of_masks(a: u16, b: u16) -> u16
     ensures { λ r. ⌜ r ≡ sum a b ⌝ }
 {
     let mut all: u16 = 0;
@@ -45,7 +44,7 @@ fn sum_of(a: u16, b: u16) -> u16
 }
 
 // `repeated` holds `b` summed n times.
-fn product_of(a: u16, b: u16) -> u16
+fn product_of_masks(a: u16, b: u16) -> u16
     ensures { λ r. ⌜ r ≡ product a b ⌝ }
 {
     let mut all: u16 = 0;
@@ -54,9 +53,25 @@ fn product_of(a: u16, b: u16) -> u16
         if has(a, n) {
             all |= repeated;
         }
-        repeated = sum_of(b, repeated);
+        repeated = sum_of_masks(b, repeated);
     }
     all
+}
+
+fn sum_of(a: Set, b: Set) -> Set
+    ensures { λ r. ⌜ r ≡ set-plus a b ⌝ }
+{
+    Set {
+        mask: sum_of_masks(a.mask, b.mask),
+    }
+}
+
+fn product_of(a: Set, b: Set) -> Set
+    ensures { λ r. ⌜ r ≡ set-times a b ⌝ }
+{
+    Set {
+        mask: product_of_masks(a.mask, b.mask),
+    }
 }
 
 impl Set {
@@ -99,15 +114,11 @@ pub impl Scale for Set as SetScale {
     }
 
     fn add(self, other: Set) -> Set {
-        Set {
-            mask: sum_of(self.mask, other.mask),
-        }
+        sum_of(self, other)
     }
 
     fn mul(self, other: Set) -> Set {
-        Set {
-            mask: product_of(self.mask, other.mask),
-        }
+        product_of(self, other)
     }
 
     fn leq(self, other: Set) -> bool {
@@ -130,26 +141,32 @@ pub impl Scale for Set as SetScale {
     }
 }
 
-// The members from the least, with commas between them.
-fn write_members<W: fmt::Write>(set: Set, f: &mut fmt::Formatter<W>) -> fmt::Result
-    ensures { λ r. ⌜ Prints took (now (f .entry)) r (listed set 16) (now (f .exit)) ⌝ }
-{
-    let mut separator = "";
-    for n in 0..16 {
-        if set.contains(n) {
-            write!(f, "{separator}{n}")?;
-            separator = ",";
+// The members of a set as they print: from the least, with commas between them.
+#[derive(Clone, Copy)]
+struct Members {
+    of: Set,
+}
+
+impl fmt::Display for Members as MembersDisplay {
+    ghost shown = { λ m. Some (listed (m .«of») 16) };
+
+    fn fmt<W: fmt::Write>(&self, f: &mut fmt::Formatter<W>) -> fmt::Result {
+        let mut separator = "";
+        for n in 0..16 {
+            if self.of.contains(n) {
+                write!(f, "{separator}{n}")?;
+                separator = ",";
+            }
         }
+        Ok(())
     }
-    Ok(())
 }
 
 pub impl fmt::Display for Set as SetDisplay {
     ghost shown = { λ s. Some (set-text s) };
 
     fn fmt<W: fmt::Write>(&self, f: &mut fmt::Formatter<W>) -> fmt::Result {
-        f.write_str("{")?;
-        write_members(*self, f)?;
-        f.write_str("}")
+        let members = Members { of: *self };
+        write!(f, "{{{members}}}")
     }
 }

@@ -5,15 +5,15 @@ use borrow.Author.Needs.{needs}
 use Rattle.std.specs.Written.{Put}
 use Rattle.scales.specs.Text.{comma, listed}
 use Rattle.scales.proofs.SetText.{listed-skip, comma-first, comma-after, put-nothing, put-member, put-skip}
-use Rattle.scales.proofs.set.ops.write_members.Needs as need
-use Rattle.scales.proofs.set.ops.write_members.Needs.{then-contains·in-Continue-write, else-contains}
+use Rattle.scales.proofs.set.ops.MembersDisplay.fmt.Needs as need
+use Rattle.scales.proofs.set.ops.MembersDisplay.fmt.Needs.{then-contains·in-Continue-write, else-contains}
 
 pub loop-n-holds : need.loop-n-holds
-loop-n-holds g c = (search needs, comma-first (c .args .set), put-nothing (g .W·Write .took) (c .args .set) (c .args .f .now))
+loop-n-holds g c = (search needs, comma-first (c .args .self .now .«of»), put-nothing (g .W·Write .took) (c .args .self .now .«of») (c .args .f .now))
 
 pub loop-n-again : need.loop-n-again
 loop-n-again g c =
-    let s = c .args .set in
+    let s = c .args .self .now .«of» in
     let n = c .loop-n .n-counter in
     let took = g .W·Write .took in
     elim (c .if-contains .came) [
@@ -34,4 +34,4 @@ loop-n-again g c =
     ]
 
 pub returns : need.returns
-returns g c = λ p q. let e : c .loop-n .n-counter ≡ 16 = omega arith in subst (λ (k : ℕ). Put (g .W·Write .took) (c .args .f .now) (listed (c .args .set) k) (c .loop-n .f)) e (c .loop-n .inv .2 p)
+returns g c = λ p q. let e : c .loop-n .n-counter ≡ 16 = omega arith in subst (λ (k : ℕ). Put (g .W·Write .took) (c .args .f .now) (listed (c .args .self .now .«of») k) (c .loop-n .f)) e (c .loop-n .inv .2 p)
