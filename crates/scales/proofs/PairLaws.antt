@@ -1,4 +1,4 @@
--- The laws of two scales side by side, from those of each. Assumes nothing.
+-- The laws of two scales side by side, from those of each.
 use mathlib.Core.Path.{_≡_, refl, ap, ap₂, subst, sym}
 use mathlib.Core.Bool.{Bool, true, false, _&&_}
 use Prim.Native.Nat.{ℕ, zero, suc, _≤_}

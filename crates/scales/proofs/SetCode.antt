@@ -1,4 +1,4 @@
--- What the code on masks does, by members. Assumes nothing.
+-- What the code on masks does, by members.
 use mathlib.Core.Path.{_≡_, refl, sym, ap, ap₂, _∙_, subst}
 use mathlib.Core.Bool.{Bool, true, false, cond, _&&_, _||_}
 use mathlib.Core.Logic.{_⊎_, inl, inr}

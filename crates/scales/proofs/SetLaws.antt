@@ -1,4 +1,4 @@
--- The laws of sets of numbers of set, by their members. Assumes nothing.
+-- The laws of sets, by their members.
 use mathlib.Core.Path.{_≡_, refl, sym, ap, ap₂, _∙_, subst}
 use mathlib.Core.Bool.{Bool, true, false, cond, _&&_, _||_}
 use mathlib.Core.HLevel.{isProp→PathP}

@@ -1,4 +1,4 @@
--- The laws of none, one, many: each by its cases. Assumes nothing.
+-- The laws of none, one, many: each by its cases.
 use mathlib.Core.Path.{_≡_, refl}
 use mathlib.Core.Bool.{Bool, true, false}
 use Prim.Native.Nat.{ℕ, zero, suc, _≤_}

@@ -1,4 +1,5 @@
--- Sets of small numbers as masks: what is a member, and sums and multiples of sets, capped at 15. Assumes nothing.
+-- Sets of the numbers 0 to 15 as masks of 16 bits: what is a member, and sums and multiples of sets, 15 standing
+-- for all above. The lemmas are those that a set needs to be one: none of these is empty or too wide.
 use mathlib.Core.Path.{_≡_, refl, sym, ap, _∙_, subst}
 use mathlib.Core.Bool.{Bool, true, false, cond, _&&_, _||_}
 use mathlib.Core.Logic.{_⊎_, inl, inr}
@@ -22,7 +23,7 @@ unfoldable pub any : ℕ → (ℕ → Bool) → Bool
 any zero p = false
 any (suc n) p = p n || any n p
 
--- whether x is the sum of a member of each
+-- whether x is the sum of a member of each, 15 where that is more
 unfoldable pub is-sum : ℕ → ℕ → ℕ → Bool
 is-sum m k x = any 16 (λ a. bit m a && any 16 (λ b. bit k b && eqb (min (a + b) 15) x))
 
@@ -34,6 +35,7 @@ unfoldable pub repeated : ℕ → ℕ → ℕ
 repeated k zero = 1
 repeated k (suc n) = sum k (repeated k n)
 
+-- whether x is a member of k summed n times, for a member n of m
 unfoldable pub is-product : ℕ → ℕ → ℕ → Bool
 is-product m k x = any 16 (λ n. bit m n && bit (repeated k n) x)
 

@@ -1,4 +1,4 @@
--- Two scales side by side: the operations. Assumes nothing.
+-- Two scales side by side: each operation works on each side, the order needs both, the ceiling is the smaller.
 use mathlib.Core.Bool.{Bool, _&&_}
 use Rattle.scales.specs.Laws.{Ops}
 use Rattle.scales.specs.Ends.{end-min}

@@ -1,4 +1,4 @@
--- none, one or many: the operations. Assumes nothing.
+-- None, one or many, by tables. Only none and one lie below many; neither lies below the other.
 use mathlib.Core.Bool.{Bool, true, false}
 use Rattle.scales.specs.Laws.{Ops}
 use Rattle.scales.specs.declared.scale.Ceiling.{Ceiling}
