@@ -9,6 +9,7 @@ use Rattle.std.proofs.shelf.Lists.{take-more}
 use Rattle.std.proofs.shelf.Tests.{and-parts, and-from, both-ways}
 use Rattle.scales.specs.Laws.{Ops, Laws}
 use Rattle.scales.specs.Rows.{zipInto, row-plus, row-join, row-times, row-zero, row-leq, total, RowLaws, Regroups, Swaps}
+use Rattle.scales.proofs.RowLists.{leq-places, places-leq}
 
 module _ {S : Type 0} {o : Ops S} (L : Laws o) where
   -- sum keeps the order in its second argument too
@@ -162,6 +163,8 @@ module _ {S : Type 0} {o : Ops S} (L : Laws o) where
     times-zero = row-times-zero;
     plus-times = row-plus-times;
     times-plus = row-times-plus;
+    leq-places = leq-places o;
+    places-leq = λ xs ys p. places-leq o xs ys (p .lengths) (p .places);
     leq-refl = row-leq-refl;
     leq-trans = row-leq-trans;
     leq-anti = row-leq-anti;
