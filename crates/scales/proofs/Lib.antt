@@ -1,0 +1,11 @@
+pub mod TallyLaws
+pub mod RowLists
+pub mod RowTheorems
+pub mod Saturated
+pub mod SpanLaws
+pub mod PairLaws
+pub mod SetLaws
+pub mod SetCode
+pub mod SetMembers
+pub mod WorkedOut
+pub mod SetText
