@@ -7,7 +7,7 @@ use lib.ListN.{length, getD, take, replicate}
 use Rattle.std.proofs.shelf.Lists.{length-take, take-all}
 use Rattle.std.specs.declared.option.Option.{Option}
 use Rattle.std.specs.declared.option.Option.the-variants.{Some, None}
-use Rattle.bay.specs.Readings.{Draws, Words, kept-back, kept-readings}
+use Rattle.bay.specs.Readings.{Draws, DrawsUnder, Words, kept-back, kept-readings}
 use Rattle.bay.proofs.Places.{take-below, zeros}
 
 pub take-words : (n : ℕ) (xs : List ℕ) → Words xs → Words (take n xs)
@@ -33,3 +33,7 @@ kept-more n xs h = let e = length-take (length xs - n) xs in omega arith
 -- with nothing kept a layer reads as below
 pub kept-none : (f : ℕ → List ℕ) (k : ℕ) → kept-readings (replicate 8 0) f k ≡ f k
 kept-none f k = ap (λ n. kept-back n (f k)) (zeros 8 k) ∙ take-all (length (f k) - 0) (f k) (omega arith)
+
+pub under : (f f′ : ℕ → List ℕ) (s : ℕ) (o : Option ℕ) → Draws f s o f′ → DrawsUnder f s o f′
+under f f′ s None h = h .1
+under f f′ s (Some x) h = h

@@ -46,6 +46,11 @@ kept-back n xs = take (length xs - n) xs
 abbrev pub kept-readings : List ℕ → (ℕ → List ℕ) → ℕ → List ℕ
 kept-readings kept below k = kept-back (getD kept k 0) (below k)
 
+-- what a layer's draw does to the bay below: the draw of what is answered, or nothing
+abbrev pub DrawsUnder : (ℕ → List ℕ) → ℕ → Option ℕ → (ℕ → List ℕ) → Type 0
+DrawsUnder below s None below′ = (k : ℕ) → below′ k ≡ below k
+DrawsUnder below s (Some x) below′ = Draws below s (Some x) below′
+
 -- each number is one of 32 bits
 abbrev pub Words : List ℕ → Type 0
 Words xs = (i : ℕ) → getD xs i 0 < 2 ^ 32

@@ -30,7 +30,8 @@ pub impl Bay for CounterBay as CounterIsBay {
         if store >= STORES {
             return None;
         }
-        let left = self.counts[store as usize].checked_sub(1)?;
+        let count = self.counts[store as usize];
+        let left = count.checked_sub(1)?;
         self.counts[store as usize] = left;
         Some(u32::from(left))
     }

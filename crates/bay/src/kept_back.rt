@@ -1,7 +1,7 @@
 // A bay over another bay, which keeps back the last readings of each store.
 ghost use mathlib.Core.Path.{_≡_};
 ghost use Prim.Native.Nat.{ℕ};
-ghost use Rattle.bay.specs.Readings.{kept-back, kept-readings};
+ghost use Rattle.bay.specs.Readings.{Draws, DrawsUnder, Unmoved, kept-back, kept-readings};
 ghost use Rattle.bay.specs.Filling.{Filling};
 use crate::Bay;
 use crate::BayFault;
@@ -26,7 +26,13 @@ pub impl<B: Bay> Bay for KeptBack<B> as KeptIsBay {
             .saturating_sub(self.kept[store as usize])
     }
 
-    fn draw(&mut self, store: u8) -> Option<u32> {
+    // Beyond what every draw does, it moves nothing that is kept: the bay below loses the reading answered and no other.
+    fn draw(&mut self, store: u8) -> Option<u32>
+        ensures draws { λ r. ⌜ Draws (kept-readings (now (self .entry) .kept) (B·Bay .readings (now (self .entry) .below))) store r (kept-readings (now (self .exit) .kept) (B·Bay .readings (now (self .exit) .below))) ⌝ }
+        ensures refused { λ r. ⌜ Unmoved r (now (self .entry)) (now (self .exit)) ⌝ }
+        ensures kept { λ _. ⌜ now (self .exit) .kept ≡ now (self .entry) .kept ⌝ }
+        ensures under { λ r. ⌜ DrawsUnder (B·Bay .readings (now (self .entry) .below)) store r (B·Bay .readings (now (self .exit) .below)) ⌝ }
+    {
         if self.stock(store) == 0 {
             return None;
         }

@@ -10,6 +10,8 @@ pub mod fault;
 pub mod kept_back;
 pub mod roll;
 pub mod roll_bay;
+#[cfg(test)]
+mod tests;
 
 pub use counter::CounterBay;
 pub use counter::CounterIsBay;
