@@ -18,10 +18,10 @@ use Rattle.bay.specs.Readings.{Draws, DrawsInto, Unmoved, Words}
 pub stock-after : (f f′ : ℕ → List ℕ) (s x : ℕ) → Draws f s (Some x) f′ → length (f s) ≡ suc (length (f′ s))
 stock-after f f′ s x h = ap length (h .0)
 
--- every other stock is as before
-pub stock-other : (f f′ : ℕ → List ℕ) (s : ℕ) (o : Option ℕ) (k : ℕ) → (k ≡ s → ⊥) → Draws f s o f′ → f′ k ≡ f k
-stock-other f f′ s None k ne h = h .1 k
-stock-other f f′ s (Some x) k ne h = h .1 k ne
+-- every other store reads as before
+pub others-stay : (f f′ : ℕ → List ℕ) (s : ℕ) (o : Option ℕ) (k : ℕ) → (k ≡ s → ⊥) → Draws f s o f′ → f′ k ≡ f k
+others-stay f f′ s None k ne h = h .1 k
+others-stay f f′ s (Some x) k ne h = h .1 k ne
 
 -- a store with a stock gives a reading
 pub granted : (f f′ : ℕ → List ℕ) (s : ℕ) (o : Option ℕ) → 0 < length (f s) → Draws f s o f′ → (x : ℕ) × (o ≡ Some x)
@@ -44,6 +44,30 @@ after-draw f f′ s x h k = go (eqb k s) refl
     go : (b : Bool) → eqb k s ≡ b → f′ k ≡ cond b (drop 1 (f s)) (f k)
     go true q = let e : k ≡ s = grind (arith, tells) in ap f′ e ∙ sym (ap (drop 1) (h .0))
     go false q = h .1 k (λ e. let z : _≡_ {A = ℕ} 0 1 = grind (arith, tells) in omega arith)
+
+-- the same of all stores at once
+pub after-draw-all : (f f′ : ℕ → List ℕ) (s x : ℕ) → Draws f s (Some x) f′ → f′ ≡ (λ k. cond (eqb k s) (drop 1 (f s)) (f k))
+after-draw-all f f′ s x h = λ i. λ k. after-draw f f′ s x h k i
+
+pub after-refusal : (f f′ : ℕ → List ℕ) (s : ℕ) → Draws f s None f′ → f′ ≡ f
+after-refusal f f′ s h = λ i. λ k. h .1 k i
+
+-- what a draw answers and leaves follows from what was to come
+pub drawn-same : (f f′ f″ : ℕ → List ℕ) (s : ℕ) (o o″ : Option ℕ) → Draws f s o f′ → Draws f s o″ f″ → (o ≡ o″) × ((k : ℕ) → f′ k ≡ f″ k)
+drawn-same f f′ f″ s None None h g = (refl, λ k. h .1 k ∙ sym (g .1 k))
+drawn-same f f′ f″ s None (Some y) h g = absurd (let e : 0 ≡ suc (length (f″ s)) = ap length (sym (h .0) ∙ g .0) in omega arith)
+drawn-same f f′ f″ s (Some x) None h g = absurd (let e : 0 ≡ suc (length (f′ s)) = ap length (sym (g .0) ∙ h .0) in omega arith)
+drawn-same f f′ f″ s (Some x) (Some y) h g = (
+  ap (λ l. Some (getD l 0 0)) (sym (h .0) ∙ g .0),
+  λ k. after-draw f f′ s x h k ∙ sym (after-draw f f″ s y g k),
+)
+
+-- readings that came and readings left are those that were to come
+pub into-stock : (f f′ : ℕ → List ℕ) (s came : ℕ) (places filled : List ℕ) → DrawsInto f s places came filled f′ → length (f s) ≡ came + length (f′ s)
+into-stock f f′ s came places filled h =
+    let e : length (f′ s) ≡ length (f s) - length places = ap length (h .left) ∙ length-drop (length places) (f s) in
+    let n = h .count in
+    omega arith
 
 -- a part of a bay that did not move leaves the whole as it was
 pub unmoved-whole : {S T : Type 0} (F : S → T) (o : Option ℕ) (b b′ : S) → Unmoved o b b′ → Unmoved o (F b) (F b′)

@@ -1,3 +1,4 @@
+use native.Mathlib.Omega.{arith}
 use Rattle.bay.proofs.Rolled.{roll-next}
 use Rattle.bay.proofs.roll.Roll.shorten.Needs as need
 
@@ -5,7 +6,7 @@ pub returns : need.returns
 returns c =
     record {
       shortens =
-          roll-next (c .args .self .now .serials) (c .args .self .now .at) (c .args .self .now .end) (c .if-self .left) (c .args .self .now .ok .2)
+          roll-next (c .args .self .now .serials) (c .args .self .now .at) (c .args .self .now .end) (omega arith) (c .args .self .now .ok .2)
           (c .args .self .now .ok .0);
       refused = tt;
     }
