@@ -8,7 +8,7 @@ ghost use Rattle.bay.specs.Readings.{Draws, DrawsInto, Unmoved, Words};
 pub mod counter;
 pub mod fault;
 pub mod kept_back;
-pub mod roll;
+mod roll;
 pub mod roll_bay;
 #[cfg(test)]
 mod tests;
@@ -18,6 +18,7 @@ pub use counter::CounterIsBay;
 pub use fault::BayFault;
 pub use kept_back::KeptBack;
 pub use kept_back::KeptIsBay;
+pub use roll_bay::MOST_SERIALS;
 pub use roll_bay::RollBay;
 pub use roll_bay::RollIsBay;
 
