@@ -1,0 +1,4 @@
+pub mod Bounds
+pub mod Flight
+pub mod Laws
+pub mod Examples
