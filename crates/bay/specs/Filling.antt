@@ -2,7 +2,8 @@
 use mathlib.Core.Path.{_≡_}
 use mathlib.Core.List.{List}
 use Prim.Native.Nat.{ℕ, _≤_, _<_}
-use lib.Chars.{codes}
+use Rattle.refusal.specs.declared.Layer.the-variants.{Bay}
+use Rattle.refusal.specs.declared.Refusal.{Refusal}
 use Rattle.std.specs.declared.result.Result.{Result}
 use Rattle.std.specs.declared.result.Result.the-variants.{Ok, Err}
 use Rattle.bay.specs.declared.fault.BayFault.{BayFault}
@@ -17,5 +18,5 @@ Filling reads s n most list before (Ok _) after =
 Filling reads s n most list before (Err e) after = (e ≡ Over s) × (s < 8 → n ≤ most → ⊥) × (after ≡ before)
 
 -- number, layer and place of a refusal
-abbrev pub fault-code : BayFault → ℕ × List ℕ × ℕ
-fault-code (Over store) = (17, codes "bay", store)
+abbrev pub refused : BayFault → Refusal
+refused (Over store) = record { number = 17; layer = Bay; place = store }

@@ -1,6 +1,8 @@
 // Why a filling is refused.
 ghost use mathlib.Core.Path.{_≡_};
-ghost use Rattle.bay.specs.Filling.{fault-code};
+ghost use Rattle.bay.specs.Filling.{refused};
+use refusal::Layer;
+use refusal::Refusal;
 
 #[derive(Clone, Copy, PartialEq, Eq, Debug)]
 pub enum BayFault {
@@ -9,12 +11,16 @@ pub enum BayFault {
 }
 
 impl BayFault {
-    // Number, layer and place, as a refusal is printed.
-    pub fn code(self) -> (u8, &'static str, u16)
-        ensures { λ r. ⌜ (r .0, now (r .1), r .2) ≡ fault-code self ⌝ }
+    // The fault by its number, layer and place.
+    pub fn refusal(self) -> Refusal
+        ensures { λ r. ⌜ r ≡ refused self ⌝ }
     {
         match self {
-            BayFault::Over(store) => (17, "bay", u16::from(store)),
+            BayFault::Over(store) => Refusal {
+                number: 17,
+                layer: Layer::Bay,
+                place: store as usize,
+            },
         }
     }
 }

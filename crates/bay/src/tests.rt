@@ -62,8 +62,8 @@ fn layers_run_out() -> Result<(), Fail> {
 
 #[test]
 fn faults_are_told() -> Result<(), Fail> {
-    let (number, layer, place) = BayFault::Over(8).code();
-    check_eq(number, 17)?;
-    check_eq(layer, "bay")?;
-    check_eq(place, 8)
+    let told = BayFault::Over(8).refusal();
+    check_eq(told.number, 17)?;
+    check_eq(told.layer.name(), "bay")?;
+    check_eq(told.place, 8)
 }
