@@ -3,7 +3,7 @@ pub mod faults;
 pub mod kinds;
 pub mod limits;
 pub mod reader;
-pub mod table;
+mod table;
 pub mod types;
 
 // The number of a type: 0 is unit, 1 number, 2 either(unit, unit), the plan's own follow from 3.

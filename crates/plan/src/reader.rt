@@ -163,7 +163,7 @@ fn read_node<'a>(
     let (kind, value, rest) = read_head(all, bytes)?;
     match node_of(types, legs, binder, kind, value) {
         Some(node) => Ok((node, rest)),
-        None => Err(ReadFault::Ref(if value == 0 { at } else { at + 1 })),
+        None => Err(ReadFault::Ref(if value > 0 { at + 1 } else { at })),
     }
 }
 

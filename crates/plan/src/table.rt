@@ -11,7 +11,7 @@ use crate::Row;
 use crate::kinds::kids_of;
 
 // The place after so many expressions, or none if the table ends before.
-pub fn skip(nodes: &[Row], at: usize, count: usize) -> Option<usize>
+fn skip(nodes: &[Row], at: usize, count: usize) -> Option<usize>
     requires ended { ⌜ Ended at (now nodes) ⌝ }
     requires within { ⌜ at ≤ length (now nodes) ⌝ }
     ensures { λ r. ⌜ ((ts : List Term) → stack (drop at (nodes-of (now (nodes .entry)))) ≡ some ts → r ≡ skipped at count ts) ⌝ }
@@ -29,7 +29,7 @@ pub fn skip(nodes: &[Row], at: usize, count: usize) -> Option<usize>
 }
 
 // Writes the ends of the expressions from `first` on; whether these are exactly one.
-pub fn close(nodes: &mut [Row], first: usize) -> bool
+pub(crate) fn close(nodes: &mut [Row], first: usize) -> bool
     requires within { ⌜ first ≤ length (now nodes) ⌝ }
     requires few { ⌜ length (now nodes) ≤ 256 ⌝ }
     ensures { λ r. ⌜ Closed first (now (nodes .entry)) (now (nodes .exit)) r ⌝ }

@@ -7,12 +7,12 @@ ghost use Rattle.typer.specs.Walk.{kids-known, kid-at};
 use plan::TypeId;
 
 #[derive(Clone, Copy, Drop)]
-pub struct KidTypes {
+pub(crate) struct KidTypes {
     pub types: [TypeId; 8],
     pub len: usize,
 }
 
-pub fn no_kids() -> KidTypes
+pub(crate) fn no_kids() -> KidTypes
     ensures none { λ r. ⌜ kids-known r ≡ [] ⌝ }
     ensures len { λ r. ⌜ r .len ≡ 0 ⌝ }
     ensures known { λ r. ⌜ length (kids-known r) ≡ r .len ⌝ }
@@ -25,7 +25,7 @@ pub fn no_kids() -> KidTypes
 
 impl KidTypes {
     // One more kid.
-    pub fn with(self, y: TypeId) -> KidTypes
+    pub(crate) fn with(self, y: TypeId) -> KidTypes
         requires { ⌜ self .len < 8 ⌝ }
         ensures kids { λ r. ⌜ kids-known r ≡ kids-known self ++ (y ∷ []) ⌝ }
         ensures len { λ r. ⌜ r .len ≡ self .len + 1 ⌝ }
@@ -40,7 +40,7 @@ impl KidTypes {
     }
 
     // The type of a kid; unit if there is none such.
-    pub fn at(self, k: usize) -> TypeId
+    pub(crate) fn at(self, k: usize) -> TypeId
         requires { ⌜ self .len ≤ 8 ⌝ }
         ensures { λ r. ⌜ r ≡ kid-at (kids-known self) k ⌝ }
     {

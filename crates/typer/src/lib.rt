@@ -1,11 +1,11 @@
 // The typer: which read plans have types.
 use plan::Plan;
 
-pub mod kids;
-pub mod rules;
-pub mod scope;
+mod kids;
+mod rules;
+mod scope;
 pub mod typed;
-pub mod walk;
+mod walk;
 
 // A plan that has types, with the number of levels in scope at each of its nodes.
 #[derive(Drop)]

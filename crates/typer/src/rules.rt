@@ -20,11 +20,11 @@ use plan::limits::MAX_LEVELS;
 use plan::types::is_same;
 
 // Unit, number, and what a comparison gives.
-pub const UNIT: TypeId = TypeId { index: 0 };
+pub(crate) const UNIT: TypeId = TypeId { index: 0 };
 
-pub const NUMBER: TypeId = TypeId { index: 1 };
+pub(crate) const NUMBER: TypeId = TypeId { index: 1 };
 
-pub const TRUTH: TypeId = TypeId { index: 2 };
+pub(crate) const TRUTH: TypeId = TypeId { index: 2 };
 
 // The place of a type in the table.
 fn place_of(types: &[Type], y: Type) -> Option<u8>
@@ -163,7 +163,7 @@ fn inner_scope(
 }
 
 // The scope of the next kid, once those before it have their types.
-pub fn kid_scope(
+pub(crate) fn kid_scope(
     types: &[Type],
     legs: &[Leg],
     at: usize,
@@ -215,7 +215,7 @@ fn call_type(legs: &[Leg], at: usize, leg: LegId, kids: KidTypes) -> Result<Type
 }
 
 // The type of a node whose kids have their types.
-pub fn node_type(
+pub(crate) fn node_type(
     types: &[Type],
     legs: &[Leg],
     at: usize,

@@ -10,13 +10,13 @@ use plan::limits::MAX_LEVELS;
 
 // From outside in; copied, so that nothing is to be put back behind a body.
 #[derive(Clone, Copy, Drop)]
-pub struct Scope {
+pub(crate) struct Scope {
     pub types: [TypeId; 16],
     pub len: usize,
 }
 
 // The scope with no names.
-pub fn no_names() -> Scope
+pub(crate) fn no_names() -> Scope
     ensures { λ r. ⌜ r .len ≡ 0 ⌝ }
 {
     Scope {
@@ -27,7 +27,7 @@ pub fn no_names() -> Scope
 
 impl Scope {
     // The scope with one more level inside.
-    pub fn with(self, y: TypeId) -> Scope
+    pub(crate) fn with(self, y: TypeId) -> Scope
         requires { ⌜ self .len < 16 ⌝ }
         ensures scope { λ r. ⌜ scope-of r ≡ y ∷ scope-of self ⌝ }
         ensures len { λ r. ⌜ r .len ≡ self .len + 1 ⌝ }
@@ -41,7 +41,7 @@ impl Scope {
     }
 
     // The type of a level.
-    pub fn level(self, level: Level) -> Option<TypeId>
+    pub(crate) fn level(self, level: Level) -> Option<TypeId>
         requires { ⌜ self .len ≤ 16 ⌝ }
         ensures { λ r. ⌜ r ≡ found (scope-of self) (level .index) ⌝ }
     {

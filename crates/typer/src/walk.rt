@@ -115,7 +115,7 @@ fn type_leg(
 }
 
 // Types the legs in order; main has to take and give numbers, which is looked at before its walk.
-pub fn type_legs(
+pub(crate) fn type_legs(
     types: &[Type],
     legs: &[Leg],
     nodes: &[Row],
