@@ -1,5 +1,5 @@
 // Reads a plan on standard input and lists its binders, or tells why it is refused.
-use listing::print_listing;
+use listing::print::print_listing;
 use std::io;
 use std::io::Read;
 
