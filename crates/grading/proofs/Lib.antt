@@ -1,0 +1,9 @@
+pub mod Binders
+pub mod AtMost
+pub mod Formed
+pub mod AreAllowed
+pub mod Numbers
+pub mod Standing
+pub mod Whole
+pub mod WorkedOut
+pub mod Turned

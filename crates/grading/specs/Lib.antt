@@ -1,0 +1,5 @@
+pub mod Grading
+pub mod Least
+pub mod Nodes
+pub mod Laws
+pub mod Examples
