@@ -1,0 +1,10 @@
+pub mod Grow
+pub mod Nodes
+pub mod Tables
+pub mod Means
+pub mod Sound
+pub mod Calling
+pub mod Fly
+pub mod Spelled
+pub mod Held
+pub mod Flights

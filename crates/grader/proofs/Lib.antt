@@ -1,0 +1,8 @@
+mod Merging
+mod Calling
+mod Closing
+mod Views
+mod Puts
+mod Walking
+mod Legs
+mod Ready

@@ -1,0 +1,3 @@
+pub mod Stack
+pub mod Walk
+pub mod Faults

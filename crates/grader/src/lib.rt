@@ -1,0 +1,5 @@
+// The grader: the least grades of a plan, over any scale.
+pub mod contexts;
+pub mod faults;
+pub mod rules;
+pub mod walk;
