@@ -3,8 +3,8 @@ use mathlib.Core.Path.{_≡_, refl, sym, ap, ap₂, subst, _∙_}
 use mathlib.Core.List.{List, [], _∷_, _++_, append-assoc, append-nil}
 use Prim.Native.Nat.{ℕ, zero, suc, _+_, _-_, _≤_, _<_}
 use native.Mathlib.Omega.{arith}
-use lib.ListN.{length, getD, take, drop, length-append}
-use Rattle.std.proofs.shelf.Lists.{take-at, drop-all}
+use lib.ListN.{length, getD, take, drop}
+use Rattle.std.proofs.shelf.Lists.{drop-all}
 use Rattle.plan.specs.declared.Node.{Node}
 use Rattle.plan.specs.declared.Row.{Row}
 use Rattle.plan.specs.declared.Leg.{Leg as FlatLeg}
@@ -12,9 +12,7 @@ use Rattle.plan.specs.Replies.{params-of, legs-in}
 use Rattle.typer.specs.Walk.{no-leg}
 use Rattle.plan.specs.Trees.{Term, flat, head, kids}
 use Rattle.plan.specs.Table.{nodes-of, term-at, row-at, node-size, Stand, Spells, In-order}
-use Rattle.plan.proofs.Stacks.{flat-all}
-use Rattle.plan.proofs.Ends.{some-nodes, drop-nodes}
-use Rattle.plan.proofs.Kids.{flat-head}
+use Rattle.plan.proofs.Kids.{rows-here}
 use Rattle.listing.specs.declared.BinderKind.{BinderKind}
 use Rattle.listing.specs.declared.BinderKind.the-variants.{Param}
 use Rattle.listing.specs.Binders.{bound-by, bound-in, params, leg-kinds}
@@ -44,56 +42,6 @@ bound-more ns i d lt = ap bound-in (nodes-more ns i d lt) ∙ bound-push (take i
 pub all-nodes : (ns : List Row) → take (length ns) (nodes-of ns) ≡ nodes-of ns
 all-nodes [] = refl
 all-nodes (n ∷ ns) = ap (λ l. n .node ∷ l) (all-nodes ns)
-
--- ---- the nodes of an expression in the table
-
-module _ (ns : List Row) (s : Spells ns) where
-  abbrev os : List Node
-  os = nodes-of ns
-
-  abbrev Found : ℕ → Type 0
-  Found i = drop i os ≡ flat (term-at ns i) ++ drop (i + node-size (term-at ns i)) os
-
-  flats-here : (n p : ℕ) (ts : List Term) → ((i : ℕ) → node-size (term-at ns i) ≤ n → i < length ns → Found i) → length (flat-all ts) ≤ n → Stand ns p ts
-      → drop p os ≡ flat-all ts ++ drop (p + length (flat-all ts)) os
-  flats-here n p [] ih le h = ap (λ k. drop k os) (let e : p ≡ p + 0 = omega arith in e)
-  flats-here n p (t ∷ ts) ih le h =
-      let split = length-append (flat t) (flat-all ts) in
-      let size = ap node-size (h .1) in
-      let first = ih p (omega arith) (h .0) in
-      let ends = h .2 in
-      let others = flats-here n (row-at ns p .end) ts ih (omega arith) (h .3) in
-      first ∙ ap₂ (λ x k. flat x ++ drop k os) (h .1) (let e : p + node-size (term-at ns p) ≡ row-at ns p .end = omega arith in e)
-      ∙ ap (λ l. flat t ++ l) (others ∙ ap (λ k. flat-all ts ++ drop k os) (let e : row-at ns p .end + length (flat-all ts) ≡ p + length (flat t ++ flat-all ts) = omega arith in e))
-      ∙ sym (append-assoc (flat t) (flat-all ts) (drop (p + length (flat t ++ flat-all ts)) os))
-
-  -- by the number of nodes that are still to be found
-  flat-here : (n i : ℕ) → node-size (term-at ns i) ≤ n → i < length ns → Found i
-  flat-here zero i le lt = absurd (let h = some-nodes (term-at ns i) in omega arith)
-  flat-here (suc n) i le lt =
-      let t = term-at ns i in
-      let size-is = ap length (flat-head t) in
-      let here = s i lt in
-      let more = flats-here n (i + 1) (kids t) (flat-here n) (omega arith) (here .1) in
-      drop-nodes ns i lt ∙ ap₂ (λ o k. o ∷ drop k os) (here .0) (let e : suc i ≡ i + 1 = omega arith in e)
-      ∙ ap (λ l. head t ∷ l) (more ∙ ap (λ k. flat-all (kids t) ++ drop k os) (let e : i + 1 + length (flat-all (kids t)) ≡ i + node-size t = omega arith in e))
-      ∙ ap (λ l. l ++ drop (i + node-size t) os) (sym (flat-head t))
-
-  nodes-drop : (xs : List Row) (i : ℕ) → nodes-of (drop i xs) ≡ drop i (nodes-of xs)
-  nodes-drop xs zero = refl
-  nodes-drop [] (suc i) = refl
-  nodes-drop (x ∷ xs) (suc i) = nodes-drop xs i
-
-  nodes-take : (xs : List Row) (i : ℕ) → nodes-of (take i xs) ≡ take i (nodes-of xs)
-  nodes-take xs zero = refl
-  nodes-take [] (suc i) = refl
-  nodes-take (x ∷ xs) (suc i) = ap (λ l. x .node ∷ l) (nodes-take xs i)
-
-  -- the rows of an expression are its nodes
-  pub rows-here : (i : ℕ) → i < length ns → nodes-of (take (node-size (term-at ns i)) (drop i ns)) ≡ flat (term-at ns i)
-  rows-here i lt =
-      nodes-take (drop i ns) (node-size (term-at ns i)) ∙ ap (take (node-size (term-at ns i))) (nodes-drop ns i ∙ flat-here (node-size (term-at ns i)) i (omega arith) lt)
-      ∙ take-at (flat (term-at ns i)) (drop (i + node-size (term-at ns i)) os) (node-size (term-at ns i)) refl
 
 -- ---- legs
 

@@ -4,14 +4,15 @@ use mathlib.Core.List.{List, [], _∷_, _++_, append-assoc, append-nil}
 use mathlib.Core.Option.{some}
 use Prim.Native.Nat.{ℕ, zero, suc, _+_, _≤_, _<_}
 use native.Mathlib.Omega.{arith}
-use lib.ListN.{length, drop}
+use lib.ListN.{length, take, drop, length-append}
+use Rattle.std.proofs.shelf.Lists.{take-at}
 use Rattle.plan.specs.declared.Node.{Node}
 use Rattle.plan.specs.declared.Row.{Row}
 use Rattle.plan.specs.Kinds.{kids-of}
 use Rattle.plan.specs.Trees.{Term, t-unit, t-number, t-name, t-let, t-take, t-pair, t-split, t-left, t-right, t-case, t-call, t-add, t-less, Terms, t-none, t-more, how-many, flat, flats, head, arguments, kids, stack}
 use Rattle.plan.specs.Table.{nodes-of, term-at, row-at, node-size, Standing, Stand, Spells}
 use Rattle.plan.proofs.Stacks.{flat-all, stack-all, stack-back}
-use Rattle.plan.proofs.Ends.{Here, here, drop-nodes, stack-of-all}
+use Rattle.plan.proofs.Ends.{Here, here, some-nodes, drop-nodes, stack-of-all}
 use Rattle.plan.proofs.Walks.{Kid, kid, stack-from}
 
 two-flat : (o : Node) (a b : Term) → o ∷ (flat a ++ flat b) ≡ o ∷ flat-all (a ∷ b ∷ [])
@@ -85,3 +86,57 @@ module _ (ns : List Row) (s : Standing 0 ns) where
       ap (λ k. stack (drop k (nodes-of ns))) (let e : i + 1 ≡ suc i = omega arith in e)
       ∙ ap stack (others ∙ sym (flat-all-append (kids t) (h .rest))) ∙ stack-of-all (kids t ++ h .rest) in
       subst (λ x. (row-at ns i .node ≡ head x) × Stand ns (i + 1) (kids x)) (sym (h .at-place)) (first, stand (i + 1) (kids t) (h .rest) behind)
+
+-- ---- the nodes of an expression in the table
+
+module _ (ns : List Row) (s : Spells ns) where
+  abbrev os : List Node
+  os = nodes-of ns
+
+  abbrev Found : ℕ → Type 0
+  Found i = drop i os ≡ flat (term-at ns i) ++ drop (i + node-size (term-at ns i)) os
+
+  flats-here : (n p : ℕ) (ts : List Term) → ((i : ℕ) → node-size (term-at ns i) ≤ n → i < length ns → Found i) → length (flat-all ts) ≤ n → Stand ns p ts
+      → drop p os ≡ flat-all ts ++ drop (p + length (flat-all ts)) os
+  flats-here n p [] ih le h = ap (λ k. drop k os) (let e : p ≡ p + 0 = omega arith in e)
+  flats-here n p (t ∷ ts) ih le h =
+      let split = length-append (flat t) (flat-all ts) in
+      let size = ap node-size (h .1) in
+      let first = ih p (omega arith) (h .0) in
+      let ends = h .2 in
+      let others = flats-here n (row-at ns p .end) ts ih (omega arith) (h .3) in
+      first ∙ ap₂ (λ x k. flat x ++ drop k os) (h .1) (let e : p + node-size (term-at ns p) ≡ row-at ns p .end = omega arith in e)
+      ∙ ap (λ l. flat t ++ l) (others ∙ ap (λ k. flat-all ts ++ drop k os) (let e : row-at ns p .end + length (flat-all ts) ≡ p + length (flat t ++ flat-all ts) = omega arith in e))
+      ∙ sym (append-assoc (flat t) (flat-all ts) (drop (p + length (flat t ++ flat-all ts)) os))
+
+  -- by the number of nodes that are still to be found
+  flat-here : (n i : ℕ) → node-size (term-at ns i) ≤ n → i < length ns → Found i
+  flat-here zero i le lt = absurd (let h = some-nodes (term-at ns i) in omega arith)
+  flat-here (suc n) i le lt =
+      let t = term-at ns i in
+      let size-is = ap length (flat-head t) in
+      let here = s i lt in
+      let more = flats-here n (i + 1) (kids t) (flat-here n) (omega arith) (here .1) in
+      drop-nodes ns i lt ∙ ap₂ (λ o k. o ∷ drop k os) (here .0) (let e : suc i ≡ i + 1 = omega arith in e)
+      ∙ ap (λ l. head t ∷ l) (more ∙ ap (λ k. flat-all (kids t) ++ drop k os) (let e : i + 1 + length (flat-all (kids t)) ≡ i + node-size t = omega arith in e))
+      ∙ ap (λ l. l ++ drop (i + node-size t) os) (sym (flat-head t))
+
+  nodes-drop : (xs : List Row) (i : ℕ) → nodes-of (drop i xs) ≡ drop i (nodes-of xs)
+  nodes-drop xs zero = refl
+  nodes-drop [] (suc i) = refl
+  nodes-drop (x ∷ xs) (suc i) = nodes-drop xs i
+
+  nodes-take : (xs : List Row) (i : ℕ) → nodes-of (take i xs) ≡ take i (nodes-of xs)
+  nodes-take xs zero = refl
+  nodes-take [] (suc i) = refl
+  nodes-take (x ∷ xs) (suc i) = ap (λ l. x .node ∷ l) (nodes-take xs i)
+
+  -- the rows of an expression are its nodes
+  pub rows-here : (i : ℕ) → i < length ns → nodes-of (take (node-size (term-at ns i)) (drop i ns)) ≡ flat (term-at ns i)
+  rows-here i lt =
+      nodes-take (drop i ns) (node-size (term-at ns i)) ∙ ap (take (node-size (term-at ns i))) (nodes-drop ns i ∙ flat-here (node-size (term-at ns i)) i (omega arith) lt)
+      ∙ take-at (flat (term-at ns i)) (drop (i + node-size (term-at ns i)) os) (node-size (term-at ns i)) refl
+
+  -- and the nodes of the table from there on begin with them
+  pub nodes-here : (i : ℕ) → i < length ns → drop i (nodes-of ns) ≡ flat (term-at ns i) ++ drop (i + node-size (term-at ns i)) (nodes-of ns)
+  nodes-here i lt = flat-here (node-size (term-at ns i)) i (omega arith) lt
