@@ -6,3 +6,5 @@ mod Puts
 mod Walking
 mod Legs
 mod Ready
+mod Count
+mod Given

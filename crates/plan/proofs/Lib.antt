@@ -7,6 +7,6 @@ pub mod Slices
 mod Walks
 mod Loops
 mod More
-mod Legs
+pub mod Legs
 pub mod Kids
 mod Whole
