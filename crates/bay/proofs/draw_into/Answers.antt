@@ -2,10 +2,10 @@ use Rattle.std.proofs.Common.{arith}
 use Rattle.bay.proofs.Drawing.{midway_more, midway_empty}
 use Rattle.bay.proofs.draw_into.Goals as goal
 
-pub returns-in-default : goal.returns-in-default
-returns-in-default g c =
+pub returns-in_default : goal.returns-in_default
+returns-in_default g c =
     midway_empty (g.B.Bay.readings c.args.bay.now) c.args.store c.args.places.now c.loop-came.branch c.loop-came.places
-    (g.B.Bay.readings c.loop-came.bay) (g.B.Bay.readings c.draw.new.self) c.loop-came.invariant c.in-default.ensures.draws
+    (g.B.Bay.readings c.loop-came.bay) (g.B.Bay.readings c.draw.new.self) c.loop-came.invariant c.in_default.ensures.draws
 
 pub loop-came-preserved : goal.loop-came-preserved
 loop-came-preserved g c =

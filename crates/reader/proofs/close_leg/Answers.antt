@@ -10,7 +10,7 @@ returns c =
     let lx : length X ≡ n = search rules in
     let is : take n _ ≡ X = take_at X (drop (length X) c.args.nodes.now.items) n lx in
     record {
-      closed = subst (λ l. Closed c.args.first (vec_items c.args.nodes.now) l c.close.result) (sym is) (subst (λ b. Closed c.args.first b X c.close.result) c.as-mut-slice.ensures.value c.close.ensures);
+      closed = subst (λ l. Closed c.args.first (vec_items c.args.nodes.now) l c.close.result) (sym is) (subst (λ b. Closed c.args.first b X c.close.result) c.as_mut_slice.ensures.value c.close.ensures);
       cap = refl;
       len = refl;
     }

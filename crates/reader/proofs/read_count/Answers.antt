@@ -4,8 +4,8 @@ use Rattle.plan.proofs.Fronts.{rest_of, rest_length}
 use Rattle.reader.proofs.Slices.{front2, count_there}
 use Rattle.reader.proofs.read_count.Goals as goal
 
-pub returns-then-used-count-le-MAX-NODES : goal.returns-then-used-count-le-MAX-NODES
-returns-then-used-count-le-MAX-NODES c =
+pub returns-then-used-count-le-MAX_NODES : goal.returns-then-used-count-le-MAX_NODES
+returns-then-used-count-le-MAX_NODES c =
     let bs = c.args.bytes.now in
     let len : 2 ≤ length bs = search rules in
     let low : 1 ≤ get_or bs 0 0 * 256 + get_or bs 1 0 = search rules in

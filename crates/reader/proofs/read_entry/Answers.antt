@@ -8,31 +8,31 @@ use Rattle.plan.specs.Written.{listed}
 use Rattle.reader.proofs.read_entry.Goals as goal
 use Rattle.reader.proofs.read_entry.Goals.{then-tag-eq1, else-tag-eq1}
 
-pub returns-in-err-a : goal.returns-in-err-a
-returns-in-err-a c =
-    let p = err_from_is_err_and c.from-residual.result c.from-residual.ensures.1 in
+pub returns-in_err-a : goal.returns-in_err-a
+returns-in_err-a c =
+    let p = err_from_is_err_and c.from_residual.result c.from_residual.ensures.1 in
     let bs = c.args.bytes.now in
     let len : 1 ≤ length bs = search rules in
     let tag : (eqb (get_or bs 0 0) 1 || eqb (get_or bs 0 0) 2) ≡ true = search rules in
-    rw (p.1, p.2) (ap (read_entry c.args.all c.args.table.now) (front1 0 bs len) ∙ entry_breaks c.args.all c.args.table.now (get_or bs 0 0) (rest_of 1 bs) _ tag c.in-err-a.ensures)
+    rw (p.1, p.2) (ap (read_entry c.args.all c.args.table.now) (front1 0 bs len) ∙ entry_breaks c.args.all c.args.table.now (get_or bs 0 0) (rest_of 1 bs) _ tag c.in_err-a.ensures)
 
-pub returns-else-is-listed : goal.returns-else-is-listed
-returns-else-is-listed c =
+pub returns-else-is_listed : goal.returns-else-is_listed
+returns-else-is_listed c =
     let bs = c.args.bytes.now in
     let ts = c.args.table.now in
     let tag = get_or bs 0 0 in
-    let a = c.in-ok-a.a in
-    let b = c.in-ok-b.b in
+    let a = c.in_ok-a.a in
+    let b = c.in_ok-b.b in
     let len : 1 ≤ length bs = search rules in
     let good : (eqb tag 1 || eqb tag 2) ≡ true = search rules in
-    let ea = c.in-ok-a.ensures in
-    let eb = c.in-ok-b.ensures in
+    let ea = c.in_ok-a.ensures in
+    let eb = c.in_ok-b.ensures in
     let is : c.if-tag-eq1.entry ≡ entry_of tag a b =
     elim c.if-tag-eq1.branch [
       | then-tag-eq1 w ↦ w.entry-is ∙ entry_pair tag a b w.if-tag-eq1.true
       | else-tag-eq1 w ↦ w.entry-is ∙ entry_either tag a b w.if-tag-eq1.false
     ] in
-    let new : listed (entry_of tag a b) ts ≡ false = ap (λ e. listed e ts) (sym is) ∙ sym c.is-listed.ensures ∙ c.if-is-listed.false in (
-      ap (read_entry c.args.all ts) (front1 0 bs len) ∙ entry_there c.args.all ts tag a b (rest_of 1 bs) c.in-ok-a.after-a.now c.in-ok-b.after-b.now good ea.0 eb.0 new ∙ ap (λ e. Ok (e, c.in-ok-b.after-b.now)) (sym is),
+    let new : listed (entry_of tag a b) ts ≡ false = ap (λ e. listed e ts) (sym is) ∙ sym c.is_listed.ensures ∙ c.if-is_listed.false in (
+      ap (read_entry c.args.all ts) (front1 0 bs len) ∙ entry_there c.args.all ts tag a b (rest_of 1 bs) c.in_ok-a.after_a.now c.in_ok-b.after_b.now good ea.0 eb.0 new ∙ ap (λ e. Ok (e, c.in_ok-b.after_b.now)) (sym is),
       omega (arith, rest_length 1 bs, ea.1, eb.1),
     )

@@ -7,29 +7,29 @@ use Rattle.reader.specs.Reading.{then_read, many, byte_if, between, read_type}
 use Rattle.reader.proofs.Loops.{Left, left_next, left_fails}
 use Rattle.reader.proofs.read_params.Goals as goal
 
-pub returns-in-err-y : goal.returns-in-err-y
-returns-in-err-y c =
-    let p = err_from_is_err_and c.from-residual-in-err-y.result c.from-residual-in-err-y.ensures.1 in
+pub returns-in_err-y : goal.returns-in_err-y
+returns-in_err-y c =
+    let p = err_from_is_err_and c.from_residual-in_err-y.result c.from_residual-in_err-y.ensures.1 in
     let v = c.loop-i.invariant in
-    let n = c.in-ok-count.ensures in
+    let n = c.in_ok-count.ensures in
     rw (p.1, p.2) (ap (λ g. then_read g (λ n r. many same_state (read_type c.args.all) n c.args.types r)) n.answer.0
-    ∙ left_fails same_state (read_type c.args.all) c.in-ok-count.count c.args.types c.in-ok-count.after-count.now c.loop-i.i c.args.types c.loop-i.rest.now (take c.loop-i.i c.loop-i.params) _ c.loop-i-test.true v.3 c.in-err-y.ensures)
+    ∙ left_fails same_state (read_type c.args.all) c.in_ok-count.count c.args.types c.in_ok-count.after_count.now c.loop-i.i c.args.types c.loop-i.rest.now (take c.loop-i.i c.loop-i.params) _ c.loop-i-test.true v.3 c.in_err-y.ensures)
 
 pub loop-i-preserved : goal.loop-i-preserved
 loop-i-preserved c =
     let v = c.loop-i.invariant in
-    let e = c.in-ok-y.ensures in
-    let bound = c.in-ok-count.ensures in
+    let e = c.in_ok-y.ensures in
+    let bound = c.in_ok-count.ensures in
     let lt : c.loop-i.i < length c.loop-i.params = search rules in (
       omega arith,
-      length-set c.loop-i.params c.loop-i.i c.in-ok-y.y ∙ v.1,
+      length-set c.loop-i.params c.loop-i.i c.in_ok-y.y ∙ v.1,
       omega (arith, e.1),
-      subst (Left same_state (read_type c.args.all) c.in-ok-count.count c.args.types c.in-ok-count.after-count.now (c.loop-i.i + 1) c.args.types c.in-ok-y.after.now)
-          (sym (take_more_set c.loop-i.params c.loop-i.i c.in-ok-y.y lt))
-          (left_next same_state (read_type c.args.all) c.in-ok-count.count c.args.types c.in-ok-count.after-count.now c.loop-i.i c.args.types c.loop-i.rest.now (take c.loop-i.i c.loop-i.params) c.in-ok-y.y c.in-ok-y.after.now c.loop-i-test.true v.3 e.0),
+      subst (Left same_state (read_type c.args.all) c.in_ok-count.count c.args.types c.in_ok-count.after_count.now (c.loop-i.i + 1) c.args.types c.in_ok-y.after.now)
+          (sym (take_more_set c.loop-i.params c.loop-i.i c.in_ok-y.y lt))
+          (left_next same_state (read_type c.args.all) c.in_ok-count.count c.args.types c.in_ok-count.after_count.now c.loop-i.i c.args.types c.loop-i.rest.now (take c.loop-i.i c.loop-i.params) c.in_ok-y.y c.in_ok-y.after.now c.loop-i-test.true v.3 e.0),
     )
 
-pub overflow-add-i : goal.overflow-add-i
-overflow-add-i c =
-    let n = c.in-ok-count.ensures.few in
+pub overflow_add-i : goal.overflow_add-i
+overflow_add-i c =
+    let n = c.in_ok-count.ensures.few in
     omega arith

@@ -12,10 +12,10 @@ loop-i-preserved c =
     let v = c.loop-i.invariant in
     let lt : i < length ns = search rules in
     let le : c.args.from ≤ i = search rules in
-    let few = c.binders-of.ensures.few in (
+    let few = c.binders_of.ensures.few in (
       omega arith,
       v.1 ∙ ap (binders_in c.loop-i.binder) (drop_nodes ns i lt)
-          ∙ ap₂ (λ b k. binders_in (c.loop-i.binder + b) (drop k (nodes_of ns))) (sym c.binders-of.ensures.is) (let e : suc i ≡ i + 1 = omega arith in e),
+          ∙ ap₂ (λ b k. binders_in (c.loop-i.binder + b) (drop k (nodes_of ns))) (sym c.binders_of.ensures.is) (let e : suc i ≡ i + 1 = omega arith in e),
     )
 
 pub returns : goal.returns

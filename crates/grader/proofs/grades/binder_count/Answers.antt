@@ -12,5 +12,5 @@ returns c =
     let k = length gs - 1 in
     let some = c.requires.some in
     let last : k + 1 ≡ length gs = omega arith in
-    c.binder-behind.ensures ∙ ap (λ b. binders_in b (drop (get_or gs k no_leg).first (nodes_of ns))) c.behind-params.ensures.is
+    c.binder_behind.ensures ∙ ap (λ b. binders_in b (drop (get_or gs k no_leg).first (nodes_of ns))) c.behind_params.ensures.is
     ∙ counted ns gs k last c.requires.spells c.requires.order (c.requires.ready k (omega arith))

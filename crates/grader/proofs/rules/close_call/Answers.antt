@@ -10,11 +10,11 @@ use Rattle.grader.proofs.rules.close_call.Goals as goal
 
 pub loop-j-init : goal.loop-j-init
 loop-j-init g c =
-    let e = c.push-none.ensures in
+    let e = c.push_none.ensures in
     let fits = c.requires.room in
     let used = e.used in
     let same = e.room in
-    (omega arith, refl, omega arith, starts g.S.Scale.ops _ c.args.width c.args.count (held c.args.contexts.now) (held c.push-none.new.self) e.held c.requires.kids)
+    (omega arith, refl, omega arith, starts g.S.Scale.ops _ c.args.width c.args.count (held c.args.contexts.now) (held c.push_none.new.self) e.held c.requires.kids)
 
 -- the argument that is next, and what that says of the stack
 module _ {G : Type 0} (o : Ops G) (r : ℕ → G) (n count : ℕ) (start : List G) (s : Contexts G) (j : ℕ) where
@@ -31,17 +31,17 @@ module _ {G : Type 0} (o : Ops G) (r : ℕ → G) (n count : ℕ) (start : List 
       let b = x.sum_wide in
       omega arith
 
-pub scale-below-requires : goal.scale-below-requires
-scale-below-requires g c =
+pub scale_below-requires : goal.scale_below-requires
+scale_below-requires g c =
     let v = c.loop-j.invariant in
-    let there = both_there g.S.Scale.ops _ c.args.width c.args.count (held c.push-none.new.self) c.loop-j.contexts c.loop-j.j v.0 c.loop-j-test.true v.2 v.3 in
+    let there = both_there g.S.Scale.ops _ c.args.width c.args.count (held c.push_none.new.self) c.loop-j.contexts c.loop-j.j v.0 c.loop-j-test.true v.2 v.3 in
     record { there = there; fits = v.0 }
 
-pub add-top-requires : goal.add-top-requires
-add-top-requires g c =
+pub add_top-requires : goal.add_top-requires
+add_top-requires g c =
     let v = c.loop-j.invariant in
-    let e = c.scale-below.ensures in
-    let there = both_there g.S.Scale.ops _ c.args.width c.args.count (held c.push-none.new.self) c.loop-j.contexts c.loop-j.j v.0 c.loop-j-test.true v.2 v.3 in
+    let e = c.scale_below.ensures in
+    let there = both_there g.S.Scale.ops _ c.args.width c.args.count (held c.push_none.new.self) c.loop-j.contexts c.loop-j.j v.0 c.loop-j-test.true v.2 v.3 in
     let used = e.used in
     let same = e.room in
     let fits = v.0 in
@@ -55,8 +55,8 @@ loop-j-preserved g c =
     let j = c.loop-j.j in
     let some = c.loop-j-test.true in
     let le = v.2 in
-    let s = c.scale-below.ensures in
-    let a = c.add-top.ensures in
+    let s = c.scale_below.ensures in
+    let a = c.add_top.ensures in
     let used = a.used in
     let room_is = a.room in
     let used_s = s.used in
@@ -70,8 +70,8 @@ loop-j-preserved g c =
       omega arith,
       a.room ∙ s.room ∙ v.1,
       omega arith,
-      goes_on o r n c.args.count (held c.push-none.new.self) (held c.loop-j.contexts) (held c.add-top.new.self) (j - 1) (omega arith)
-          (subst (λ i. Calling o r n c.args.count (held c.push-none.new.self) i (held c.loop-j.contexts)) j_is v.3)
+      goes_on o r n c.args.count (held c.push_none.new.self) (held c.loop-j.contexts) (held c.add_top.new.self) (j - 1) (omega arith)
+          (subst (λ i. Calling o r n c.args.count (held c.push_none.new.self) i (held c.loop-j.contexts)) j_is v.3)
           (λ h p q ep eq is.
           a.held h (row_times o x p) q (length-map p (o.times x) ∙ ep) eq (s.held h p q ep eq is) ∙ ap (λ y. h ++ row_plus o (row_times o y p) q) x_is),
     )
@@ -82,10 +82,10 @@ returns g c =
     let o = g.S.Scale.ops in
     let left = c.loop-j-test.false in
     let none : c.loop-j.j ≡ 0 = omega arith in
-    let start = held c.push-none.new.self in
+    let start = held c.push_none.new.self in
     record {
-      held = ends o _ c.args.width c.args.count (held c.args.contexts.now) start (held c.loop-j.contexts) c.push-none.ensures.held
+      held = ends o _ c.args.width c.args.count (held c.args.contexts.now) start (held c.loop-j.contexts) c.push_none.ensures.held
           (subst (λ j. Calling o (λ i. get_or c.args.answers.now (c.args.first + i) o.zero) c.args.width c.args.count start j (held c.loop-j.contexts)) none v.3);
-      room = v.1 ∙ c.push-none.ensures.room;
+      room = v.1 ∙ c.push_none.ensures.room;
       fits = v.0;
     }

@@ -15,18 +15,18 @@ use Rattle.grader.proofs.Views.{fit_view, row}
 use Rattle.grader.proofs.Walking.{Walking, Next, Walked, begins, next_kid, goes_on, none_left, still_known, closed_row, closed_answers, inner_length}
 use Rattle.grader.proofs.walk.+grade.Goals as goal
 
-pub overflow-add-binder : goal.overflow-add-binder
-overflow-add-binder g t c =
-    let few = c.binders-of.ensures.few in
+pub overflow_add-binder : goal.overflow_add-binder
+overflow_add-binder g t c =
+    let few = c.binders_of.ensures.few in
     let o = g.S.Scale.ops in
     let ns = c.args.nodes.now in
     let e = term_at ns c.args.at in
     let Γ = lower_needs o ns c.args.legs.now in
     let le = c.requires.binders in
     let s = c.requires.spells c.args.at c.requires.within in
-    let own : c.binders-of.result ≡ binders (head e) = c.binders-of.ensures.is ∙ ap binders s.0 in
+    let own : c.binders_of.result ≡ binders (head e) = c.binders_of.ensures.is ∙ ap binders s.0 in
     let long = inner_length o Γ c.args.legs.now ns c.args.at c.args.width c.args.next e [] [] in
-    let fits : c.args.next + c.binders-of.result ≤ length c.args.answers.now = omega arith in
+    let fits : c.args.next + c.binders_of.result ≤ length c.args.answers.now = omega arith in
     search rules
 
 pub loop-k-init : goal.loop-k-init
@@ -39,8 +39,8 @@ loop-k-init g t c =
     let Γ = lower_needs o ns gs in
     let s = c.requires.spells i c.requires.within in
     let counted = kids_counted e in
-    let count : c.kids-of-count.result ≡ kids_of (head e) = c.kids-of-count.ensures ∙ ap kids_of s.0 in
-    let own : c.binders-of.result ≡ binders (head e) = c.binders-of.ensures.is ∙ ap binders s.0 in
+    let count : c.kids_of-count.result ≡ kids_of (head e) = c.kids_of-count.ensures ∙ ap kids_of s.0 in
+    let own : c.binders_of.result ≡ binders (head e) = c.binders_of.ensures.is ∙ ap binders s.0 in
     let room_is = c.requires.room in (
       omega arith,
       omega arith,
@@ -52,8 +52,8 @@ loop-k-init g t c =
           (begins o Γ gs ns i c.args.width c.args.next e (held c.args.contexts.now) c.args.answers.now s.1 c.requires.fit c.requires.binders),
     )
 
-pub kid-width-inner-requires : goal.kid-width-inner-requires
-kid-width-inner-requires g t c = (fit_view c.args.legs.now c.args.width (term_at c.args.nodes.now c.args.at) c.requires.fit).0
+pub kid_width-inner-requires : goal.kid_width-inner-requires
+kid_width-inner-requires g t c = (fit_view c.args.legs.now c.args.width (term_at c.args.nodes.now c.args.at) c.requires.fit).0
 
 pub grade-binder-requires : goal.grade-binder-requires
 grade-binder-requires g t c κs lives =
@@ -74,7 +74,7 @@ grade-binder-requires g t c κs lives =
     let base = held c.args.contexts.now in
     let start = c.args.answers.now in
     let x = next_kid o Γ gs ns i n c.args.next e base start k p b (held c.loop-k.contexts) answers v.6 (omega arith) in
-    let w_is : kid_width n (head e) k ≡ c.kid-width-inner.result = sym (c.kid-width-inner.ensures ∙ ap (λ h. kid_width n h k) v.2) in
+    let w_is : kid_width n (head e) k ≡ c.kid_width-inner.result = sym (c.kid_width-inner.ensures ∙ ap (λ h. kid_width n h k) v.2) in
     let within = x.within in
     let behind = v.6.behind in
     let fit = subst (λ w. Fit gs w (term_at ns p)) w_is (subst (Fit gs (kid_width n (head e) k)) (sym x.tree) x.fit_here) in
@@ -93,8 +93,8 @@ grade-binder-requires g t c κs lives =
     let room_there : c.loop-k.contexts.used + 16 * node_size (term_at ns p) ≤ room c.loop-k.contexts = omega arith in
     (search rules, (lives, (c.requires.spells, (within, (fit, (params, (known, (few, room_there))))))))
 
-pub offset-bounds-nodes-place : goal.offset-bounds-nodes-place
-offset-bounds-nodes-place g t c =
+pub offset_bounds-nodes-place : goal.offset_bounds-nodes-place
+offset_bounds-nodes-place g t c =
     let o = g.S.Scale.ops in
     let ns = c.args.nodes.now in
     let gs = c.args.legs.now in
@@ -132,7 +132,7 @@ loop-k-preserved g t c =
     let base = held c.args.contexts.now in
     let start = c.args.answers.now in
     let x = next_kid o Γ gs ns i n c.args.next e base start k c.loop-k.place c.loop-k.binder (held c.loop-k.contexts) c.loop-k.answers v.6 (omega arith) in
-    let w_is : c.kid-width-inner.result ≡ kid_width n (head e) k = c.kid-width-inner.ensures ∙ ap (λ h. kid_width n h k) v.2 in
+    let w_is : c.kid_width-inner.result ≡ kid_width n (head e) k = c.kid_width-inner.ensures ∙ ap (λ h. kid_width n h k) v.2 in
     let r = c.grade-binder.ensures in (
       omega arith,
       v.1,

@@ -36,8 +36,8 @@ grade-requires g c =
       room = omega arith;
     }
 
-pub note-params-requires : goal.note-params-requires
-note-params-requires g c =
+pub note_params-requires : goal.note_params-requires
+note_params-requires g c =
     let o = g.S.Scale.ops in
     let ns = c.args.nodes.now in
     let leg = c.args.leg in
@@ -74,5 +74,5 @@ returns g c =
     let long = ap length (leg_split o Γ ns leg n (sym n_is)) ∙ length-append (from_0 n (goal o Γ t n)) (inner o Γ t n) in
     let row = length_from_0 n (goal o Γ t n) in
     let fits = c.requires.binders in
-    c.note-params.ensures ∙ ap₂ (λ u l. put first u l) held_is e.answers
+    c.note_params.ensures ∙ ap₂ (λ u l. put first u l) held_is e.answers
     ∙ put_front first (first + n) (from_0 n (goal o Γ t n)) (inner o Γ t n) answers (omega arith) (omega arith) ∙ ap (λ l. put first l answers) (sym (leg_split o Γ ns leg n (sym n_is)))

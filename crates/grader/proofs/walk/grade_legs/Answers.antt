@@ -7,8 +7,8 @@ use Rattle.grader.specs.Walk.{put}
 use Rattle.grader.proofs.Legs.{AtLeg, params_so, room_for, next_leg}
 use Rattle.grader.proofs.walk.grade_legs.Goals as goal
 
-pub grade-leg-requires : goal.grade-leg-requires
-grade-leg-requires g c =
+pub grade_leg-requires : goal.grade_leg-requires
+grade_leg-requires g c =
     let o = g.S.Scale.ops in
     let ns = c.args.nodes.now in
     let gs = c.args.legs.now in
@@ -33,7 +33,7 @@ loop-k-preserved g c =
     let ns = c.args.nodes.now in
     let gs = c.args.legs.now in
     let start = c.args.answers.now in
-    next_leg o ns gs start c.loop-k.k c.loop-k.answers c.loop-k.invariant c.loop-k-test.true c.requires.ready c.requires.binders c.grade-leg.new.answers c.grade-leg.ensures
+    next_leg o ns gs start c.loop-k.k c.loop-k.answers c.loop-k.invariant c.loop-k-test.true c.requires.ready c.requires.binders c.grade_leg.new.answers c.grade_leg.ensures
 
 pub returns : goal.returns
 returns g c =

@@ -10,7 +10,7 @@ loop-i-preserved c =
     let i = c.loop-i.i in
     let before = vec_items c.args.kinds.now in
     let lt : i < length ns = search rules in
-    c.in-ok-push-bound.ensures ∙ ap (λ l. l ++ bound_by (get_or ns i no_row).node) c.loop-i.invariant
+    c.in_ok-push_bound.ensures ∙ ap (λ l. l ++ bound_by (get_or ns i no_row).node) c.loop-i.invariant
     ∙ append_assoc before (bound_in (take i (nodes_of ns))) (bound_by (get_or ns i no_row).node) ∙ ap (λ l. before ++ l) (sym (bound_more ns i no_row lt))
 
 pub returns : goal.returns

@@ -12,7 +12,7 @@ loop-k-preserved c =
     let k = c.loop-k.k in
     let p = c.loop-k.at in
     let out = vec_items c.loop-k.kinds in
-    let e = c.body-end-end.ensures in
+    let e = c.body_end-end.ensures in
     let lt : k < length gs = search rules in (
       e.high,
       λ s o.
@@ -20,13 +20,13 @@ loop-k-preserved c =
           let fits = behind_fits ns gs k p out no_leg lt h s in
           let low = fits.0 in
           let high = fits.1 in
-          let is : c.body-end-end.result ≡ p + node_size (term_at ns p) =
+          let is : c.body_end-end.result ≡ p + node_size (term_at ns p) =
           elim (cases_lt (k + 1) (length gs)) [
             | inl more ↦ (let n = next_first ns gs k p out no_leg lt h s more in e.next more (omega arith) (omega arith) ∙ n)
             | inr le ↦ e.last le ∙ none_behind ns gs k p out no_leg lt h s le
           ] in
-          next_leg ns gs k p out no_leg lt h s c.body-end-end.result (vec_items c.push-params.new.kinds) (vec_items c.push-all.new.kinds) is
-          (c.in-ok-push-params.ensures (few_params ns gs k p out no_leg lt h s)) c.in-ok-push-all.ensures),
+          next_leg ns gs k p out no_leg lt h s c.body_end-end.result (vec_items c.push_params.new.kinds) (vec_items c.push_all.new.kinds) is
+          (c.in_ok-push_params.ensures (few_params ns gs k p out no_leg lt h s)) c.in_ok-push_all.ensures),
     )
 
 pub returns : goal.returns

@@ -9,7 +9,7 @@ pub loop-preserved : goal.loop-preserved
 loop-preserved c =
     let before = vec_items c.args.kinds.now in
     let n = c.loop.counter in
-    c.in-ok-push.ensures.items ∙ ap (λ l. l ++ (Param ∷ [])) c.loop.invariant ∙ append_assoc before (params n) (Param ∷ []) ∙ ap (λ l. before ++ l) (sym (params_more n))
+    c.in_ok-push.ensures.items ∙ ap (λ l. l ++ (Param ∷ [])) c.loop.invariant ∙ append_assoc before (params n) (Param ∷ []) ∙ ap (λ l. before ++ l) (sym (params_more n))
 
 pub returns : goal.returns
 returns c = λ few.

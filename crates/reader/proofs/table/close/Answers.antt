@@ -12,11 +12,11 @@ went : (c : goal.In-Some)
     × Closing (c.loop-i.i - 1) c.args.nodes.now (set c.loop-i.nodes (c.loop-i.i - 1) (record { node = (row_at c.loop-i.nodes (c.loop-i.i - 1)).node; end = c.in-Some.end }))
 went c =
     let v = c.loop-i.invariant in
-    turn c.loop-i.i c.args.nodes.now c.loop-i.nodes (omega arith) v.1 v.3 c.kids-of.result c.kids-of.ensures c.in-Some.end
+    turn c.loop-i.i c.args.nodes.now c.loop-i.nodes (omega arith) v.1 v.3 c.kids_of.result c.kids_of.ensures c.in-Some.end
     (λ ts e. sym c.in-Some.is ∙ c.skip.ensures ts e)
 
-pub overflow-cast-nodes : goal.overflow-cast-nodes
-overflow-cast-nodes c =
+pub overflow_cast-nodes : goal.overflow_cast-nodes
+overflow_cast-nodes c =
     let w = went c in
     let v = c.loop-i.invariant in
     omega arith
@@ -31,7 +31,7 @@ loop-i-preserved c =
 pub returns-in-None : goal.returns-in-None
 returns-in-None c =
     let v = c.loop-i.invariant in
-    stop c.loop-i.i c.args.nodes.now c.loop-i.nodes (omega arith) v.1 v.3 c.kids-of.result c.kids-of.ensures (λ ts e. sym c.in-None.is ∙ c.skip.ensures ts e)
+    stop c.loop-i.i c.args.nodes.now c.loop-i.nodes (omega arith) v.1 v.3 c.kids_of.result c.kids_of.ensures (λ ts e. sym c.in-None.is ∙ c.skip.ensures ts e)
     c.args.first (omega arith)
 
 pub returns-then-first-all : goal.returns-then-first-all

@@ -1,5 +1,5 @@
 use Rattle.std.proofs.Common.{length}
 use Rattle.typer.proofs.rules.+place_of.Given as goal
 
-abbrev pub decreases-place-of : goal.decreases-place-of
-decreases-place-of l = length l.types.now
+abbrev pub decreases-place_of : goal.decreases-place_of
+decreases-place_of l = length l.types.now

@@ -5,8 +5,8 @@ use Rattle.typer.specs.Walk.{world, scope_of, kids_known}
 use Rattle.typer.proofs.Walking.{Walking}
 use Rattle.typer.proofs.walk.+type_of.Given as goal
 
-abbrev pub decreases-type-of : goal.decreases-type-of
-decreases-type-of l = length l.nodes.now - l.at
+abbrev pub decreases-type_of : goal.decreases-type_of
+decreases-type_of l = length l.nodes.now - l.at
 
 abbrev pub invariant-loop-kids : goal.invariant-loop-kids
 invariant-loop-kids l =

@@ -14,8 +14,8 @@ made_map (Err e) f h = tt
 pub returns-then-legs-eq0 : goal.returns-then-legs-eq0
 returns-then-legs-eq0 c = record { answer = no_legs (world c.args.types.now c.args.legs.now) c.args.nodes.now c.args.legs.now c.if-legs-eq0.true; levels = tt }
 
-pub type-leg-requires : goal.type-leg-requires
-type-leg-requires c =
+pub type_leg-requires : goal.type_leg-requires
+type_leg-requires c =
     let v = c.loop-k.invariant in
     let ns = c.args.nodes.now in
     let gs = c.args.legs.now in
@@ -26,9 +26,9 @@ type-leg-requires c =
     let fits = x.fits in
     record { types = c.requires.types; legs = each_few 0 ns gs c.requires.order; spells = c.requires.spells; within = x.within; few = x.few; params = x.params; room = omega arith }
 
-pub returns-in-err-type-leg : goal.returns-in-err-type-leg
-returns-in-err-type-leg c =
-    let p = err_from_is_err_and c.from-residual.result c.from-residual.ensures.1 in
+pub returns-in_err-type_leg : goal.returns-in_err-type_leg
+returns-in_err-type_leg c =
+    let p = err_from_is_err_and c.from_residual.result c.from_residual.ensures.1 in
     let v = c.loop-k.invariant in
     let ns = c.args.nodes.now in
     let gs = c.args.legs.now in
@@ -38,7 +38,7 @@ returns-in-err-type-leg c =
     let done = vec_items c.loop-k.levels in
     let g = get_or gs k no_leg in
     let x = here w ns gs k done no_leg (omega arith) v.1 in
-    rw (p.1, p.2) (record { answer = sym (lower_fails w ns gs k done g v.1 x lt c.in-err-type-leg.field-0.0 (sym c.in-err-type-leg.ensures.answer)); levels = tt })
+    rw (p.1, p.2) (record { answer = sym (lower_fails w ns gs k done g v.1 x lt c.in_err-type_leg.field-0.0 (sym c.in_err-type_leg.ensures.answer)); levels = tt })
 
 pub loop-k-preserved : goal.loop-k-preserved
 loop-k-preserved c =
@@ -51,14 +51,14 @@ loop-k-preserved c =
     let done = vec_items c.loop-k.levels in
     let g = get_or gs k no_leg in
     let x = here w ns gs k done no_leg (omega arith) v.1 in
-    let one = c.in-ok-type-leg.ensures in
-    (one.cap ∙ v.0, next_leg w ns gs k done g v.1 x lt (vec_items c.type-leg.new.levels) (sym one.answer) one.levels)
+    let one = c.in_ok-type_leg.ensures in
+    (one.cap ∙ v.0, next_leg w ns gs k done g v.1 x lt (vec_items c.type_leg.new.levels) (sym one.answer) one.levels)
 
-pub numbers-only-requires : goal.numbers-only-requires
-numbers-only-requires c = each_few 0 c.args.nodes.now c.args.legs.now c.requires.order (length c.args.legs.now - 1) (search rules)
+pub numbers_only-requires : goal.numbers_only-requires
+numbers_only-requires c = each_few 0 c.args.nodes.now c.args.legs.now c.requires.order (length c.args.legs.now - 1) (search rules)
 
-pub returns-then-not-numbers-only : goal.returns-then-not-numbers-only
-returns-then-not-numbers-only c =
+pub returns-then-not-numbers_only : goal.returns-then-not-numbers_only
+returns-then-not-numbers_only c =
     let v = c.loop-k.invariant in
     let ns = c.args.nodes.now in
     let gs = c.args.legs.now in
@@ -70,13 +70,13 @@ returns-then-not-numbers-only c =
     let g = get_or gs (length gs - 1) no_leg in
     let x = here w ns gs (length gs - 1) done no_leg (omega arith) h in
     record {
-      answer = sym (main w ns gs (length gs - 1) done g h x last c.numbers-only.result c.numbers-only.ensures
-          ∙ ap (λ b. cond b (check_leg w g.first (leg_in ns g)) (Err (BadType g.first))) c.if-not-numbers-only.true);
+      answer = sym (main w ns gs (length gs - 1) done g h x last c.numbers_only.result c.numbers_only.ensures
+          ∙ ap (λ b. cond b (check_leg w g.first (leg_in ns g)) (Err (BadType g.first))) c.if-not-numbers_only.true);
       levels = tt;
     }
 
-pub type-leg-requires-2 : goal.type-leg-requires-2
-type-leg-requires-2 c =
+pub type_leg-requires-2 : goal.type_leg-requires-2
+type_leg-requires-2 c =
     let v = c.loop-k.invariant in
     let ns = c.args.nodes.now in
     let gs = c.args.legs.now in
@@ -102,7 +102,7 @@ returns c =
     let g = get_or gs (length gs - 1) no_leg in
     let x = here w ns gs (length gs - 1) done no_leg (omega arith) h in
     record {
-      answer = c.type-leg-2.ensures.answer ∙ sym (main w ns gs (length gs - 1) done g h x last c.numbers-only.result c.numbers-only.ensures
-          ∙ ap (λ b. cond b (check_leg w g.first (leg_in ns g)) (Err (BadType g.first))) c.if-not-numbers-only.false);
-      levels = made_map c.type-leg-2.result (main_levels w ns gs (length gs - 1) done g h x last (vec_items c.type-leg-2.new.levels)) c.type-leg-2.ensures.levels;
+      answer = c.type_leg-2.ensures.answer ∙ sym (main w ns gs (length gs - 1) done g h x last c.numbers_only.result c.numbers_only.ensures
+          ∙ ap (λ b. cond b (check_leg w g.first (leg_in ns g)) (Err (BadType g.first))) c.if-not-numbers_only.false);
+      levels = made_map c.type_leg-2.result (main_levels w ns gs (length gs - 1) done g h x last (vec_items c.type_leg-2.new.levels)) c.type_leg-2.ensures.levels;
     }

@@ -7,8 +7,8 @@ returns-then-store-ge-STORES c = record { draws = (counter_past c.args.self.now.
 
 pub returns : goal.returns
 returns c =
-    let was = c.in-ok-left.ensures in
+    let was = c.in_ok-left.ensures in
     record {
-      draws = counter_draw c.args.self.now.counts c.args.store c.in-ok-left.left c.from.result (search rules) (omega arith) c.from.ensures;
+      draws = counter_draw c.args.self.now.counts c.args.store c.in_ok-left.left c.from.result (search rules) (omega arith) c.from.ensures;
       refused = tt;
     }

@@ -13,20 +13,20 @@ pub fly-requires : goal.fly-requires
 fly-requires g c =
     let q = c.args.self.now.plan in
     let m = c.args.self.now.machine in
-    subst (λ (ns : List Row). Ready ns c.as-slice-2.result.now (tables m) m.control) (sym c.as-slice.ensures.value)
-    (subst (λ (gs : List Leg). Ready (rows_of q) gs (tables m) m.control) (sym c.as-slice-2.ensures.value)
+    subst (λ (ns : List Row). Ready ns c.as_slice-2.result.now (tables m) m.control) (sym c.as_slice.ensures.value)
+    (subst (λ (gs : List Leg). Ready (rows_of q) gs (tables m) m.control) (sym c.as_slice-2.ensures.value)
     (ready_of (rows_of q) (legs_of q) (tables m) m.control c.args.self.now.ready))
 
-pub invariant-of-self : goal.invariant-of-self
-invariant-of-self g c =
+pub invariant_of-self : goal.invariant_of-self
+invariant_of-self g c =
     let s = c.args.self.now in
     let m = c.fly.new.self in (
       s.legs,
       (
         s.main,
         (
-          ∣ subst (λ (ns : List Row). Ready ns (legs_of s.plan) (tables m) m.control) c.as-slice.ensures.value
-              (subst (λ (gs : List Leg). Ready c.as-slice.result.now gs (tables m) m.control) c.as-slice-2.ensures.value c.fly.ensures.ready) ∣₁,
+          ∣ subst (λ (ns : List Row). Ready ns (legs_of s.plan) (tables m) m.control) c.as_slice.ensures.value
+              (subst (λ (gs : List Leg). Ready c.as_slice.result.now gs (tables m) m.control) c.as_slice-2.ensures.value c.fly.ensures.ready) ∣₁,
           tt,
         ),
       ),
@@ -41,8 +41,8 @@ returns g c =
     let w = c.fly.new.self in
     let n = c.args.n in
     let on : Flies (rows_of q) (legs_of q) n y (tables m) m.control z (tables w) w.control
-    = subst (λ (ns : List Row). Flies ns (legs_of q) n y (tables m) m.control z (tables w) w.control) c.as-slice.ensures.value
-    (subst (λ (gs : List Leg). Flies c.as-slice.result.now gs n y (tables m) m.control z (tables w) w.control) c.as-slice-2.ensures.value c.fly.ensures.flies) in
+    = subst (λ (ns : List Row). Flies ns (legs_of q) n y (tables m) m.control z (tables w) w.control) c.as_slice.ensures.value
+    (subst (λ (gs : List Leg). Flies c.as_slice.result.now gs n y (tables m) m.control z (tables w) w.control) c.as_slice-2.ensures.value c.fly.ensures.flies) in
     record {
       plan = refl;
       flies = λ p y₀ N A. (

@@ -60,6 +60,6 @@ returns-in-Add c = second_as c.args.nodes.now c.args.legs.now (tables c.args.sel
 pub returns-in-Less : goal.returns-in-Less
 returns-in-Less c = second_as c.args.nodes.now c.args.legs.now (tables c.args.self.now) c.args.node c.args.scope c.args.depth c.requires.poised Less c.args.v c.in-Less.is (λ E L ρ v st. refl) _ _ c.wait-in-Less.ensures
 
-pub returns-in-default : goal.returns-in-default
-returns-in-default c =
-    rest_leads c.args.nodes.now c.args.legs.now (tables c.args.self.now) c.args.node c.args.scope c.args.depth c.requires.poised c.args.v c.requires.value c.in-default.not-Take c.in-default.not-Split c.in-default.not-Left c.in-default.not-Right c.in-default.not-Case c.in-default.not-Pair c.in-default.not-Add c.in-default.not-Less
+pub returns-in_default : goal.returns-in_default
+returns-in_default c =
+    rest_leads c.args.nodes.now c.args.legs.now (tables c.args.self.now) c.args.node c.args.scope c.args.depth c.requires.poised c.args.v c.requires.value c.in_default.not-Take c.in_default.not-Split c.in_default.not-Left c.in_default.not-Right c.in_default.not-Case c.in_default.not-Pair c.in_default.not-Add c.in_default.not-Less

@@ -5,8 +5,8 @@ use Rattle.flight.specs.declared.machine.Control.TheVariants.{Eval}
 use Rattle.flight.proofs.Leads.{leads_at, bind_leads, bind_full}
 use Rattle.flight.proofs.machine.Machine.bind.Goals as goal
 
-pub returns-then-len-eq-MAX-ENTRIES : goal.returns-then-len-eq-MAX-ENTRIES
-returns-then-len-eq-MAX-ENTRIES c =
+pub returns-then-len-eq-MAX_ENTRIES : goal.returns-then-len-eq-MAX_ENTRIES
+returns-then-len-eq-MAX_ENTRIES c =
     let t = tables c.args.self.now in
     let P = c.requires.poised in
     let full : length t.log ≡ 4096 = search rules in

@@ -7,22 +7,22 @@ pub loop-k-init : goal.loop-k-init
 loop-k-init c =
     call_start c.args.nodes.now c.args.legs.now (tables c.args.self.now) c.args.leg c.args.count c.args.node c.args.scope c.args.depth c.requires
 
-pub returns-then-len-eq-MAX-ENTRIES : goal.returns-then-len-eq-MAX-ENTRIES
-returns-then-len-eq-MAX-ENTRIES c =
+pub returns-then-len-eq-MAX_ENTRIES : goal.returns-then-len-eq-MAX_ENTRIES
+returns-then-len-eq-MAX_ENTRIES c =
     let t = tables c.loop-k.self in
     let full : length t.log ≡ 4096 = search rules in
     call_full c.args.nodes.now c.args.legs.now (tables c.args.self.now) c.args.leg c.args.count c.args.node c.args.scope c.args.depth
     t c.loop-k.k c.loop-k.kid c.loop-k.inner c.loop-k.invariant c.loop-k-test.true full
 
-pub overflow-cast-kid : goal.overflow-cast-kid
-overflow-cast-kid c =
+pub overflow_cast-kid : goal.overflow_cast-kid
+overflow_cast-kid c =
     let h = kid_there c.args.nodes.now c.args.legs.now (tables c.args.self.now) c.args.leg c.args.count c.args.node c.args.scope c.args.depth
     (tables c.loop-k.self) c.loop-k.k c.loop-k.kid c.loop-k.inner c.loop-k.invariant c.loop-k-test.true in
     let few = c.loop-k.invariant.poised.laid.few in
     record { fits = omega arith }
 
-pub offset-bounds-nodes-kid : goal.offset-bounds-nodes-kid
-offset-bounds-nodes-kid c =
+pub offset_bounds-nodes-kid : goal.offset_bounds-nodes-kid
+offset_bounds-nodes-kid c =
     let h = kid_there c.args.nodes.now c.args.legs.now (tables c.args.self.now) c.args.leg c.args.count c.args.node c.args.scope c.args.depth
     (tables c.loop-k.self) c.loop-k.k c.loop-k.kid c.loop-k.inner c.loop-k.invariant c.loop-k-test.true in
     let few = c.loop-k.invariant.poised.laid.few in

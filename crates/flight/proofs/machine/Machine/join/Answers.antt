@@ -23,8 +23,8 @@ pub returns-in-Add : goal.returns-in-Add
 returns-in-Add c =
     join_as c.args.nodes.now c.args.legs.now (tables c.args.self.now) c.args.node c.args.scope c.args.depth c.requires.poised _ Add c.args.u c.args.v c.in-Add.is _ _
     (leads_at c.args.nodes.now c.args.legs.now (tables c.args.self.now) _ _ _ _ _ c.value-in-Add.ensures.tables (ap Return c.value-in-Add.ensures.place)
-    (join_add c.args.nodes.now c.args.legs.now (tables c.args.self.now) c.args.node c.args.scope c.args.depth c.requires.poised c.args.u c.args.v c.saturating-add-sum.result
-    (c.saturating-add-sum.ensures ∙ ap₂ (λ (x y : ℕ). min (x + y) 4294967295) c.number.ensures c.number-in-Add.ensures)))
+    (join_add c.args.nodes.now c.args.legs.now (tables c.args.self.now) c.args.node c.args.scope c.args.depth c.requires.poised c.args.u c.args.v c.saturating_add-sum.result
+    (c.saturating_add-sum.ensures ∙ ap₂ (λ (x y : ℕ). min (x + y) 4294967295) c.number.ensures c.number-in-Add.ensures)))
 
 pub returns-then-number : goal.returns-then-number
 returns-then-number c =
@@ -40,5 +40,5 @@ returns-else-number c =
     let t = c.if-number.false in
     join_as c.args.nodes.now c.args.legs.now (tables c.args.self.now) c.args.node c.args.scope c.args.depth c.requires.poised _ Less c.args.u c.args.v c.in-Less.is _ _ (join_more c.args.nodes.now c.args.legs.now (tables c.args.self.now) c.args.node c.args.scope c.args.depth c.requires.poised c.args.u c.args.v (omega arith))
 
-pub returns-in-default : goal.returns-in-default
-returns-in-default c = join_rest c.args.nodes.now c.args.legs.now (tables c.args.self.now) c.args.node c.args.scope c.args.depth c.requires.poised c.args.kind c.args.u c.args.v c.requires.two c.in-default.not-Pair c.in-default.not-Add c.in-default.not-Less
+pub returns-in_default : goal.returns-in_default
+returns-in_default c = join_rest c.args.nodes.now c.args.legs.now (tables c.args.self.now) c.args.node c.args.scope c.args.depth c.requires.poised c.args.kind c.args.u c.args.v c.requires.two c.in_default.not-Pair c.in_default.not-Add c.in_default.not-Less

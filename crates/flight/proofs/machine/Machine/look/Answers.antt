@@ -4,8 +4,8 @@ use Rattle.flight.specs.Tables.{Tables, tables, no_binding}
 use Rattle.flight.proofs.Leads.{leads_at, name_full, name_later, name_kept, name_store}
 use Rattle.flight.proofs.machine.Machine.look.Goals as goal
 
-pub returns-then-len-eq-MAX-ENTRIES : goal.returns-then-len-eq-MAX-ENTRIES
-returns-then-len-eq-MAX-ENTRIES c =
+pub returns-then-len-eq-MAX_ENTRIES : goal.returns-then-len-eq-MAX_ENTRIES
+returns-then-len-eq-MAX_ENTRIES c =
     let t = tables c.args.self.now in
     let full : length t.log ≡ 4096 = search rules in
     let x : c.index-b.result.now ≡ get_or t.bindings c.find-at.result no_binding = search (rules, get_or_read) in

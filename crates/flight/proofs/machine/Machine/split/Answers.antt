@@ -14,14 +14,14 @@ use Rattle.flight.proofs.Keeps.{size_low, sound_opened}
 use Rattle.flight.proofs.Giving.{split_none, split_half, split_both}
 use Rattle.flight.proofs.machine.Machine.split.Goals as goal
 
-pub returns-then-len-eq-MAX-ENTRIES : goal.returns-then-len-eq-MAX-ENTRIES
-returns-then-len-eq-MAX-ENTRIES c =
+pub returns-then-len-eq-MAX_ENTRIES : goal.returns-then-len-eq-MAX_ENTRIES
+returns-then-len-eq-MAX_ENTRIES c =
     let t = tables c.args.self.now in
     let full : length t.log ≡ 4096 = search rules in
     split_none c.args.nodes.now c.args.legs.now (tables c.args.self.now) c.args.node c.args.scope c.args.depth c.requires.splits.poised c.args.binder c.args.parts.0 c.args.parts.1 c.args.body c.requires.splits.value c.requires.second c.requires.splits.body full
 
-pub returns-then-len-eq-MAX-ENTRIES-2 : goal.returns-then-len-eq-MAX-ENTRIES-2
-returns-then-len-eq-MAX-ENTRIES-2 c =
+pub returns-then-len-eq-MAX_ENTRIES-2 : goal.returns-then-len-eq-MAX_ENTRIES-2
+returns-then-len-eq-MAX_ENTRIES-2 c =
     let t = tables c.args.self.now in
     let few = c.requires.splits.poised.sound.log in
     let len : c.len.result ≡ length t.log = search rules in

@@ -16,7 +16,7 @@ call-requires c = calls c.args.nodes.now c.args.legs.now (tables c.args.self.now
 pub wait-requires : goal.wait-requires
 wait-requires c =
     waits c.args.nodes.now c.args.legs.now (tables c.args.self.now) c.args.node c.args.scope c.args.depth c.requires
-    (strict_of (kind_at c.args.nodes.now c.args.node) c.in-default.not-Unit c.in-default.not-Number c.in-default.not-Name c.in-default.not-Let c.in-default.not-Call)
+    (strict_of (kind_at c.args.nodes.now c.args.node) c.in_default.not-Unit c.in_default.not-Number c.in_default.not-Name c.in_default.not-Let c.in_default.not-Call)
 
 pub returns-in-Unit : goal.returns-in-Unit
 returns-in-Unit c = unit_leads c.args.nodes.now c.args.legs.now (tables c.args.self.now) c.args.node c.args.scope c.args.depth c.requires c.in-Unit.is
@@ -38,8 +38,8 @@ pub returns-in-Call : goal.returns-in-Call
 returns-in-Call c =
     kind_leads c.args.nodes.now c.args.legs.now (tables c.args.self.now) c.args.node c.args.scope c.args.depth c.requires (Call c.in-Call.leg c.in-Call.count) c.in-Call.is _ _ c.call.ensures
 
-pub returns-in-default : goal.returns-in-default
-returns-in-default c =
+pub returns-in_default : goal.returns-in_default
+returns-in_default c =
     wait_as c.args.nodes.now c.args.legs.now (tables c.args.self.now) c.args.node c.args.scope c.args.depth c.requires
-    (strict_of (kind_at c.args.nodes.now c.args.node) c.in-default.not-Unit c.in-default.not-Number c.in-default.not-Name c.in-default.not-Let c.in-default.not-Call)
+    (strict_of (kind_at c.args.nodes.now c.args.node) c.in_default.not-Unit c.in_default.not-Number c.in_default.not-Name c.in_default.not-Let c.in_default.not-Call)
     _ _ c.wait.ensures

@@ -8,9 +8,9 @@ returns g c =
     let n = c.args.width in
     let m = c.args.top in
     let there = c.requires.there in
-    let fold = c.add-down.ensures in
+    let fold = c.add_down.ensures in
     record {
-      held = merged_at g.G.Scale.ops.plus s.places.now c.add-down.new.places s.used n m (s.used - m - n) (s.used - m) c.requires.fits (omega arith) (omega arith) c.requires.wide fold;
+      held = merged_at g.G.Scale.ops.plus s.places.now c.add_down.new.places s.used n m (s.used - m - n) (s.used - m) c.requires.fits (omega arith) (omega arith) c.requires.wide fold;
       used = omega arith;
       room = fold.long;
     }

@@ -8,9 +8,9 @@ returns g c =
     let n = c.args.width in
     let m = c.args.width in
     let there = c.requires.there in
-    let fold = c.join-down.ensures in
+    let fold = c.join_down.ensures in
     record {
-      held = merged_at g.G.Scale.ops.join s.places.now c.join-down.new.places s.used n m (s.used - m - n) (s.used - m) c.requires.fits (omega arith) (omega arith) (omega arith) fold;
+      held = merged_at g.G.Scale.ops.join s.places.now c.join_down.new.places s.used n m (s.used - m - n) (s.used - m) c.requires.fits (omega arith) (omega arith) (omega arith) fold;
       used = omega arith;
       room = fold.long;
     }

@@ -7,9 +7,9 @@ use Rattle.grader.proofs.contexts.Contexts.push_one.Goals as goal
 pub returns : goal.returns
 returns g c =
     let s = c.args.self.now in
-    let t = c.push-none.new.self in
+    let t = c.push_none.new.self in
     let n = c.args.width in
-    let e = c.push-none.ensures in
+    let e = c.push_none.ensures in
     let room_is = e.room in
     let fits = c.requires.room in
     record {

@@ -12,8 +12,8 @@ returns g c =
     let m = c.args.top in
     let there = c.requires.there in
     record {
-      held = rewritten s.places.now c.scale-into.new.row s.used n m (s.used - m - n) (s.used - m - (s.used - m - n)) c.requires.fits (omega arith) (omega arith)
-          (row_times g.G.Scale.ops c.args.by) (λ l. length-map l (g.G.Scale.ops.times c.args.by)) c.scale-into.ensures;
+      held = rewritten s.places.now c.scale_into.new.row s.used n m (s.used - m - n) (s.used - m - (s.used - m - n)) c.requires.fits (omega arith) (omega arith)
+          (row_times g.G.Scale.ops c.args.by) (λ l. length-map l (g.G.Scale.ops.times c.args.by)) c.scale_into.ensures;
       used = refl;
       room = search (rules, overwrites);
     }

@@ -9,20 +9,20 @@ use Rattle.listing.specs.Listings.{ListingAnswer}
 use Rattle.listing.proofs.Columns.{kinds_counted, column_refuses}
 use Rattle.listing.proofs.table.make.list_plan.Goals as goal
 
-pub returns-in-err-tallies : goal.returns-in-err-tallies
-returns-in-err-tallies c =
+pub returns-in_err-tallies : goal.returns-in_err-tallies
+returns-in_err-tallies c =
     let bs = c.args.bytes.now in
-    let t = c.in-ok-typed.ensures.answer in
-    let q = tree c.in-ok-typed.typed.plan in
+    let t = c.in_ok-typed.ensures.answer in
+    let q = tree c.in_ok-typed.typed.plan in
     let count : binder_count q ≡ c.len.result = kinds_counted q ∙ ap length (sym (c.in-Ok.ensures t.1)) ∙ search rules in
-    let p = err_from_is_err_and c.from-residual-in-err-tallies.result c.from-residual-in-err-tallies.ensures.1 in
-    subst (ListingAnswer bs) (sym p.1) (subst (λ (e : _). ListingAnswer bs (Err e)) (sym p.2) (column_refuses tally_ops bs c.len.result q t.0 count c.in-err-tallies.field-0.0 c.in-err-tallies.ensures))
+    let p = err_from_is_err_and c.from_residual-in_err-tallies.result c.from_residual-in_err-tallies.ensures.1 in
+    subst (ListingAnswer bs) (sym p.1) (subst (λ (e : _). ListingAnswer bs (Err e)) (sym p.2) (column_refuses tally_ops bs c.len.result q t.0 count c.in_err-tallies.field-0.0 c.in_err-tallies.ensures))
 
-pub returns-in-err-spans : goal.returns-in-err-spans
-returns-in-err-spans c = ?
+pub returns-in_err-spans : goal.returns-in_err-spans
+returns-in_err-spans c = ?
 
-pub returns-in-err-sets : goal.returns-in-err-sets
-returns-in-err-sets c = ?
+pub returns-in_err-sets : goal.returns-in_err-sets
+returns-in_err-sets c = ?
 
 pub returns : goal.returns
 returns c = ?

@@ -12,7 +12,7 @@ loop-n-preserved c = (
     | then-has w ↦ subst (λ (k : ℕ). Gathered c.args.a (Repeated c.args.b) (c.loop-n.n + 1) k) (sym w.all-is) (gathered_take c.args.a (Repeated c.args.b) c.loop-n.n c.loop-n.all c.loop-n.repeated c.loop-n.invariant.0 (sym c.has.ensures ∙ w.if-has.true) (counted c.args.b c.loop-n.n c.loop-n.repeated c.loop-n.invariant.1))
     | else-has w ↦ subst (λ (k : ℕ). Gathered c.args.a (Repeated c.args.b) (c.loop-n.n + 1) k) (sym w.all-is) (gathered_skip c.args.a (Repeated c.args.b) c.loop-n.n c.loop-n.all c.loop-n.invariant.0 (sym c.has.ensures ∙ w.if-has.false))
   ],
-  counted_more c.args.b c.loop-n.n c.loop-n.repeated _ c.loop-n.invariant.1 c.sum-of-masks-repeated.ensures,
+  counted_more c.args.b c.loop-n.n c.loop-n.repeated _ c.loop-n.invariant.1 c.sum_of_masks-repeated.ensures,
 )
 
 pub returns : goal.returns

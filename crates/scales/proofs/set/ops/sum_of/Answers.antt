@@ -3,10 +3,10 @@ use Rattle.scales.specs.Set.{set_plus}
 use Rattle.scales.specs.SetLaws.{set_same}
 use Rattle.scales.proofs.set.ops.sum_of.Goals as goal
 
-pub invariant-of-result : goal.invariant-of-result
-invariant-of-result c =
+pub invariant_of-result : goal.invariant_of-result
+invariant_of-result c =
     let r = set_plus c.args.a c.args.b in
-    (subst (λ (k : ℕ). 0 < k) (sym c.sum-of-masks.ensures) r.some, (subst (λ (k : ℕ). k < 65536) (sym c.sum-of-masks.ensures) r.fits, tt))
+    (subst (λ (k : ℕ). 0 < k) (sym c.sum_of_masks.ensures) r.some, (subst (λ (k : ℕ). k < 65536) (sym c.sum_of_masks.ensures) r.fits, tt))
 
 pub returns : goal.returns
-returns c = set_same _ _ c.sum-of-masks.ensures
+returns c = set_same _ _ c.sum_of_masks.ensures

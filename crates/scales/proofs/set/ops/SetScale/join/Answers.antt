@@ -3,8 +3,8 @@ use Rattle.scales.specs.Set.{set_join}
 use Rattle.scales.specs.SetLaws.{set_same}
 use Rattle.scales.proofs.set.ops.SetScale.join.Goals as goal
 
-pub invariant-of-result : goal.invariant-of-result
-invariant-of-result c = let r = set_join c.args.self c.args.other in (r.some, (r.fits, tt))
+pub invariant_of-result : goal.invariant_of-result
+invariant_of-result c = let r = set_join c.args.self c.args.other in (r.some, (r.fits, tt))
 
 pub returns : goal.returns
 returns c = set_same _ _ refl
