@@ -1,4 +1,6 @@
 // What the grades of a plan say about its flights. Theorems only: each function stands for the one in its contract, and does nothing else.
+#![tactic(auto)]
+
 ghost use Rattle.scales.specs.Laws.{ExactlyOne};
 ghost use Rattle.scales.specs.Set.{set_ops};
 ghost use Rattle.scales.specs.Span.{span_ops};

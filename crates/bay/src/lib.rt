@@ -1,4 +1,6 @@
 // Bays: eight stores, each with the readings that are to come.
+#![tactic(auto)]
+
 ghost use Rattle.std.specs.Prelude.{◌≡◌, ℕ, ◌^◌, ◌<◌, ◌≤◌, List, [], length};
 ghost use Rattle.bay.specs.Readings.{Draws, DrawsInto, Unmoved, Words};
 

@@ -1,4 +1,6 @@
 // What a flight is, and the laws that hold of every flight. Definitions and theorems only; each function stands for the law in its contract.
+#![tactic(auto)]
+
 ghost use Rattle.std.specs.Prelude.{◌≡◌};
 ghost use Rattle.evaluation.specs.Bounds.{max_begun, max_depth, max_entries, max_number};
 ghost use Rattle.evaluation.specs.Laws.{StocksAddUp, BoundsKept, BudgetsAdd, UnlimitedExtends, TypesKeepForm};

@@ -1,4 +1,6 @@
 // The grader: the least grades of a plan, over any scale.
+#![tactic(auto)]
+
 pub mod contexts;
 pub mod faults;
 pub mod grades;

@@ -1,5 +1,7 @@
 // The least allowed grading of a plan, over any scale: what is allowed, what is least, and the laws that tie the two.
 // Each law is the contract of a function that does nothing else.
+#![tactic(auto)]
+
 ghost use Rattle.grading.specs.Examples.{Examples};
 ghost use Rattle.grading.specs.Laws.{LeastAllowed, LeastLeast, CeilingsOf};
 

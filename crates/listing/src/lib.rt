@@ -1,4 +1,6 @@
 // A plan's binders, listed as the programs print them.
+#![tactic(auto)]
+
 ghost use Rattle.std.specs.Prelude.{◌≡◌};
 ghost use Rattle.listing.specs.Names.{kind_name};
 

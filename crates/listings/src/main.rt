@@ -1,4 +1,6 @@
 // Reads plans in base sixteen, one to a line, and prints the listing or the refusal of each, then a line with a point.
+#![tactic(auto)]
+
 use listing::print::print_listing;
 use std::io;
 use std::io::Read;

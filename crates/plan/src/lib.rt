@@ -1,4 +1,6 @@
 // Plans: their types, nodes and legs, as a table of nodes in prefix order; the trees that it stands for and the bytes that spell it; and why bytes are refused.
+#![tactic(auto)]
+
 pub mod faults;
 pub mod kinds;
 pub mod limits;

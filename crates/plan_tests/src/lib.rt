@@ -1,4 +1,6 @@
 // The worked plan, its damaged forms and bad input of other kinds, as numbers and places.
+#![tactic(auto)]
+
 #[cfg(test)]
 mod tests {
     use std::alloc::Global;

@@ -1,4 +1,6 @@
 // The reader: plan bytes, front to back, into the tables of a plan, or the first fault.
+#![tactic(auto)]
+
 ghost use Rattle.std.specs.Prelude.{◌≡◌, ℕ, ◌+◌, ◌*◌, ◌^◌, ◌<◌, ◌≤◌, List, [], ◌∷◌, ◌++◌, length, IfOk, vec_len, vec_capacity, OnOk, ◌≢◌};
 ghost use Rattle.plan.specs.Written.{built_in};
 ghost use Rattle.plan.specs.declared.faults.ReadFault.TheVariants.{Limit};

@@ -1,4 +1,6 @@
 // A refusal as it is told: which rule was broken, by its number; which layer found it; and where.
+#![tactic(auto)]
+
 ghost use Rattle.std.specs.Prelude.{◌≡◌, ◌++◌, Some, codes, decimal};
 ghost use Rattle.refusal.specs.Shown.{layer_name, refusal_line};
 

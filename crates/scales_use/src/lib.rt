@@ -1,5 +1,7 @@
 // Scales used from another crate: generic code whose proof rests on a theorem over every lawful scale,
 // the same code at two scales, and tests of the four scales.
+#![tactic(auto)]
+
 ghost use Rattle.std.specs.Prelude.{◌≡◌, ◌++◌};
 ghost use Rattle.scales.specs.Pair.{pair_ops};
 ghost use Rattle.scales.specs.Rows.{total};

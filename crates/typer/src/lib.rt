@@ -1,4 +1,6 @@
 // The typer: which read plans have types.
+#![tactic(auto)]
+
 use plan::Plan;
 
 mod kids;

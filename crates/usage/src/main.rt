@@ -1,4 +1,6 @@
 // Reads a plan on standard input and lists its binders, or tells why it is refused.
+#![tactic(auto)]
+
 use listing::print::print_listing;
 use std::io;
 use std::io::Read;

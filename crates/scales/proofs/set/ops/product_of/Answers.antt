@@ -6,7 +6,7 @@ use Rattle.scales.proofs.set.ops.product_of.Goals as goal
 pub invariant_of-result : goal.invariant_of-result
 invariant_of-result c =
     let r = set_times c.args.a c.args.b in
-    (subst (λ (k : ℕ). 0 < k) (sym c.product_of_masks.ensures) r.some, (subst (λ (k : ℕ). k < 65536) (sym c.product_of_masks.ensures) r.fits, tt))
+    record { some = subst (λ (k : ℕ). 0 < k) (sym c.product_of_masks.ensures) r.some; fits = subst (λ (k : ℕ). k < 65536) (sym c.product_of_masks.ensures) r.fits }
 
 pub returns : goal.returns
 returns c = set_same _ _ c.product_of_masks.ensures

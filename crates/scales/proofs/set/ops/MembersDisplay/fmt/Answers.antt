@@ -20,7 +20,7 @@ loop-n-preserved g c =
             ap (λ r. r.now) w.separator-is ∙ sym (comma_after s n c.loop-n-test.true m),
             λ h. let before = c.loop-n.invariant.2 h in
                 subst (λ (k : _). HasWritten took c.args.f.now (listed s (n + 1)) k) (sym w.f-is)
-                (put_member took s n c.loop-n.separator.now c.args.f.now c.loop-n.f w.write.new.self m c.loop-n.invariant.1 before (w.in_ok-write.ensures.shows before.plain refl)),
+                (put_member took s n c.loop-n.separator.now c.args.f.now c.loop-n.f w.write.new.self m c.loop-n.invariant.1 before (w.in_ok-write.ensures.writes before.plain refl)),
           ))
       | else-contains w ↦ (
           let m = sym w.if-contains.ensures in (
