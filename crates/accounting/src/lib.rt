@@ -20,12 +20,12 @@ use scales::theorems::exactly_one;
 
 // A flight that ends DONE looks no binding up more than its binder's grade allows.
 pub fn within_grades<S: Scale>()
-    ensures { KeepsWithin ops }
+    ensures { KeepsWithin S.ops }
 {}
 
 // Where one use is all that a grade of one allows, and not fewer, such a binder's bindings have exactly one lookup each.
 pub fn one_is_once<S: Scale>()
-    ensures { ExactlyOne ops → OneIsOnce ops }
+    ensures { ExactlyOne S.ops → OneIsOnce S.ops }
 {}
 
 // So it is under tally, span and set.
@@ -42,17 +42,17 @@ pub fn once_by_tally_span_and_set()
 
 // If each store holds what the ceiling of its grade in some allowed grading allows, no flight ends EMPTY.
 pub fn stocks_suffice<S: Scale>()
-    ensures { StocksSuffice ops }
+    ensures { StocksSuffice S.ops }
 {}
 
 // The same without a scale: the ceilings of any allowed grading guard the plan.
 pub fn ceilings_guard<S: Scale>()
-    ensures { AllowedGuards ops }
+    ensures { AllowedGuards S.ops }
 {}
 
 // So do those of the least grades, if the reader and the typer accept the plan.
 pub fn least_ceilings_guard<S: Scale>()
-    ensures { (p : Plan) → Accepted p → Guards p (ceilings ops p) }
+    ensures { (p : Plan) → Accepted p → Guards p (ceilings S.ops p) }
 {}
 
 // Gradings and flights of three plans, held against each other.

@@ -45,7 +45,7 @@ pub trait Bay {
 
 // Draws from a store as often as `places` has places, until the store is empty, and answers how many readings came.
 pub fn draw_into<B: Bay>(bay: &mut B, store: u8, places: &mut [u32]) -> usize
-    ensures { DrawsInto (readings bay.old) store places.old result places.new (readings bay.new) }
+    ensures { DrawsInto (B.readings bay.old) store places.old result places.new (B.readings bay.new) }
 {
     let mut came = 0;
     while came < places.len() {

@@ -17,7 +17,7 @@ pub struct Contexts<'a, G> {
 
 // Sets every grade to zero.
 fn clear<G: Scale>(row: &mut [G])
-    ensures { row.new ≡ row_zero ops (length row.old) }
+    ensures { row.new ≡ row_zero G.ops (length row.old) }
 {
     for i in 0..row.len() {
         row[i] = G::zero();
@@ -27,7 +27,7 @@ fn clear<G: Scale>(row: &mut [G])
 // Adds the grades `width` places further on to those from `at` on.
 fn add_down<G: Scale>(places: &mut [G], at: usize, width: usize)
     requires { at + width + width ≤ length places.old }
-    ensures { Folded ops.plus at width width places.old places.new }
+    ensures { Folded G.ops.plus at width width places.old places.new }
 {
     for i in 0..width {
         let low = at + i;
@@ -38,7 +38,7 @@ fn add_down<G: Scale>(places: &mut [G], at: usize, width: usize)
 // Joins the grades `width` places further on to those from `at` on.
 fn join_down<G: Scale>(places: &mut [G], at: usize, width: usize)
     requires { at + width + width ≤ length places.old }
-    ensures { Folded ops.join at width width places.old places.new }
+    ensures { Folded G.ops.join at width width places.old places.new }
 {
     for i in 0..width {
         let low = at + i;
@@ -64,7 +64,7 @@ impl<'a, G: Scale> Contexts<'a, G> {
     // A context with no use on top.
     pub fn push_none(&mut self, width: usize)
         requires { self.old.used + width ≤ room self.old }
-        ensures held { held self.new ≡ held self.old ++ row_zero ops width }
+        ensures held { held self.new ≡ held self.old ++ row_zero G.ops width }
         ensures used { self.new.used ≡ self.old.used + width }
         ensures room { room self.new ≡ room self.old }
     {
@@ -77,7 +77,7 @@ impl<'a, G: Scale> Contexts<'a, G> {
     pub fn push_one(&mut self, width: usize, level: usize)
         requires room { self.old.used + width ≤ room self.old }
         requires level { level < width }
-        ensures held { held self.new ≡ held self.old ++ from_0 width (one_of ops level) }
+        ensures held { held self.new ≡ held self.old ++ from_0 width (one_of G.ops level) }
         ensures used { self.new.used ≡ self.old.used + width }
         ensures room { room self.new ≡ room self.old }
     {
@@ -91,7 +91,7 @@ impl<'a, G: Scale> Contexts<'a, G> {
         requires wide { width ≤ top }
         requires there { width + top ≤ self.old.used }
         requires fits { self.old.used ≤ room self.old }
-        ensures held { (h a b : List G) → length a ≡ width → length b ≡ top → held self.old ≡ h ++ (a ++ b) → held self.new ≡ h ++ row_plus ops a b }
+        ensures held { (h a b : List G) → length a ≡ width → length b ≡ top → held self.old ≡ h ++ (a ++ b) → held self.new ≡ h ++ row_plus G.ops a b }
         ensures used { self.new.used + top ≡ self.old.used }
         ensures room { room self.new ≡ room self.old }
     {
@@ -104,7 +104,7 @@ impl<'a, G: Scale> Contexts<'a, G> {
     pub fn join_top(&mut self, width: usize)
         requires there { width + width ≤ self.old.used }
         requires fits { self.old.used ≤ room self.old }
-        ensures held { (h a b : List G) → length a ≡ width → length b ≡ width → held self.old ≡ h ++ (a ++ b) → held self.new ≡ h ++ row_join ops a b }
+        ensures held { (h a b : List G) → length a ≡ width → length b ≡ width → held self.old ≡ h ++ (a ++ b) → held self.new ≡ h ++ row_join G.ops a b }
         ensures used { self.new.used + width ≡ self.old.used }
         ensures room { room self.new ≡ room self.old }
     {
@@ -117,7 +117,7 @@ impl<'a, G: Scale> Contexts<'a, G> {
     pub fn scale_below(&mut self, by: G, width: usize, top: usize)
         requires there { width + top ≤ self.old.used }
         requires fits { self.old.used ≤ room self.old }
-        ensures held { (h a b : List G) → length a ≡ width → length b ≡ top → held self.old ≡ h ++ (a ++ b) → held self.new ≡ h ++ (row_times ops by a ++ b) }
+        ensures held { (h a b : List G) → length a ≡ width → length b ≡ top → held self.old ≡ h ++ (a ++ b) → held self.new ≡ h ++ (row_times G.ops by a ++ b) }
         ensures used { self.new.used ≡ self.old.used }
         ensures room { room self.new ≡ room self.old }
     {

@@ -60,7 +60,7 @@ pub fn grades<S: Scale>(
     work: &mut [S],
     answers: &mut [S],
 ) -> Result<usize, GradeFault>
-    ensures { GradesAnswer ops bytes.now work.old work.new answers.old answers.new result }
+    ensures { GradesAnswer S.ops bytes.now work.old work.new answers.old answers.new result }
 {
     if work.len() < WORK_PLACES {
         return Err(GradeFault::Short);

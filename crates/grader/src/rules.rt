@@ -43,7 +43,7 @@ fn close_call<S: Scale>(
     requires kids { RowsOn (held contexts.old) count (λ k. width) }
     requires room { contexts.old.used + width ≤ room contexts.old }
     requires known { first + count ≤ length answers.now }
-    ensures held { (k : RowsOn (held contexts.old) count (λ k. width)) → held contexts.new ≡ k.base ++ call_row ops (λ j. slice_index_or answers.now (first + j) ops.zero) 0 width k.rows }
+    ensures held { (k : RowsOn (held contexts.old) count (λ k. width)) → held contexts.new ≡ k.base ++ call_row S.ops (λ j. slice_index_or answers.now (first + j) S.ops.zero) 0 width k.rows }
     ensures room { room contexts.new ≡ room contexts.old }
     ensures fits { contexts.new.used ≤ room contexts.new }
 {
@@ -71,7 +71,7 @@ pub fn close<S: Scale>(
     requires head { HeadFit legs.now width node }
     requires binders { next + binders node ≤ length answers.old }
     requires known { ParamsIn legs.now (length answers.old) }
-    ensures closed { Closed ops (params_at ops legs.now answers.old) node width next (held contexts.old) (held contexts.new) answers.old answers.new }
+    ensures closed { Closed S.ops (params_at S.ops legs.now answers.old) node width next (held contexts.old) (held contexts.new) answers.old answers.new }
     ensures room { room contexts.new ≡ room contexts.old }
     ensures fits { contexts.new.used ≤ room contexts.new }
 {

@@ -28,14 +28,14 @@ fn grade<S: Scale>(
     requires within { at < length nodes.now }
     requires fit { Fit legs.now width (term_at nodes.now at) }
     requires params { ParamsIn legs.now next }
-    requires known { Known ops (lower_needs ops nodes.now legs.now) legs.now answers.old }
-    requires binders { next + length (inner ops (lower_needs ops nodes.now legs.now) (term_at nodes.now at) width) ≤ length answers.old }
+    requires known { Known S.ops (lower_needs S.ops nodes.now legs.now) legs.now answers.old }
+    requires binders { next + length (inner S.ops (lower_needs S.ops nodes.now legs.now) (term_at nodes.now at) width) ≤ length answers.old }
     requires room { contexts.old.used + 16 * node_size (term_at nodes.now at) ≤ room contexts.old }
-    ensures held { held contexts.new ≡ held contexts.old ++ from_0 width (need ops (lower_needs ops nodes.now legs.now) (term_at nodes.now at) width) }
+    ensures held { held contexts.new ≡ held contexts.old ++ from_0 width (need S.ops (lower_needs S.ops nodes.now legs.now) (term_at nodes.now at) width) }
     ensures room { room contexts.new ≡ room contexts.old }
     ensures fits { contexts.new.used ≤ room contexts.new }
-    ensures answers { answers.new ≡ put next (inner ops (lower_needs ops nodes.now legs.now) (term_at nodes.now at) width) answers.old }
-    ensures next { result ≡ next + length (inner ops (lower_needs ops nodes.now legs.now) (term_at nodes.now at) width) }
+    ensures answers { answers.new ≡ put next (inner S.ops (lower_needs S.ops nodes.now legs.now) (term_at nodes.now at) width) answers.old }
+    ensures next { result ≡ next + length (inner S.ops (lower_needs S.ops nodes.now legs.now) (term_at nodes.now at) width) }
 {
     let node = nodes[at].node;
     let count = kids_of(node);
@@ -77,10 +77,10 @@ fn grade_leg<S: Scale>(lower: &[Leg], nodes: &[Row], leg: Leg, work: &mut [S], a
     requires spells { Spells nodes.now }
     requires ready { LegReady nodes.now lower.now leg }
     requires params { ParamsIn lower.now leg.binder.index }
-    requires known { Known ops (lower_needs ops nodes.now lower.now) lower.now answers.old }
-    requires binders { leg.binder.index + length (leg_grades ops (lower_needs ops nodes.now lower.now) (leg_in nodes.now leg)) ≤ length answers.old }
+    requires known { Known S.ops (lower_needs S.ops nodes.now lower.now) lower.now answers.old }
+    requires binders { leg.binder.index + length (leg_grades S.ops (lower_needs S.ops nodes.now lower.now) (leg_in nodes.now leg)) ≤ length answers.old }
     requires room { 4096 ≤ length work.old }
-    ensures { answers.new ≡ put leg.binder.index (leg_grades ops (lower_needs ops nodes.now lower.now) (leg_in nodes.now leg)) answers.old }
+    ensures { answers.new ≡ put leg.binder.index (leg_grades S.ops (lower_needs S.ops nodes.now lower.now) (leg_in nodes.now leg)) answers.old }
 {
     let count = arity(leg);
     let first = leg.binder.index as usize;
@@ -103,7 +103,7 @@ pub fn grade_legs<S: Scale>(legs: &[Leg], nodes: &[Row], work: &mut [S], answers
     requires ready { LegsReady nodes.now legs.now }
     requires binders { legs_binders (turned [] (legs_in nodes.now legs.now)) ≤ length answers.old }
     requires room { 4096 ≤ length work.old }
-    ensures { answers.new ≡ put 0 (legs_grades ops (turned [] (legs_in nodes.now legs.now))) answers.old }
+    ensures { answers.new ≡ put 0 (legs_grades S.ops (turned [] (legs_in nodes.now legs.now))) answers.old }
 {
     for k in 0..legs.len() {
         grade_leg(&legs[..k], nodes, legs[k], work, answers);

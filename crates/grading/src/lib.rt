@@ -9,17 +9,17 @@ use scales::scale::Scale;
 
 // The least grading of an accepted plan is allowed.
 pub fn least_is_allowed<S: Scale>()
-    ensures { LeastAllowed ops }
+    ensures { LeastAllowed S.ops }
 {}
 
 // Every allowed grading lies at or above the least one, at every binder and at every node.
 pub fn least_is_least<S: Scale>()
-    ensures { LeastLeast ops }
+    ensures { LeastLeast S.ops }
 {}
 
 // The eight ceilings are those of the least grades of main's parameters, and 0 beyond them.
 pub fn ceilings_of_stores<S: Scale>()
-    ensures { CeilingsOf ops }
+    ensures { CeilingsOf S.ops }
 {}
 
 // Least grades of some plans, worked out.

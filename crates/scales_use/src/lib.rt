@@ -17,7 +17,7 @@ use scales::tally::Tally;
 
 // The sum of two rows, of which the second comes first.
 pub fn sum_both<S: Scale>(xs: &[S], ys: &[S]) -> S
-    ensures { result ≡ total ops (ys.now ++ xs.now) }
+    ensures { result ≡ total S.ops (ys.now ++ xs.now) }
 {
     rows::sum(xs).add(rows::sum(ys))
 }

@@ -61,8 +61,8 @@ impl Flight {
     // Flies on for at most n evaluations more: what was flown for N is then flown for N + n. Tells the outcome and the evaluations that this call began.
     pub fn advance<B: Bay>(&mut self, bay: &mut B, n: u32) -> Flown
         ensures plan { self.new.plan ≡ self.old.plan }
-        ensures flies { (p : Tree) (y : ℕ → List ℕ) (N : ℕ) → Flies self.old p y N (readings bay.old) → Flies self.new p y (N + n) (readings bay.new) }
-        ensures told { result.outcome ≡ outcome_of (out_of self.new (readings bay.new)) }
+        ensures flies { (p : Tree) (y : ℕ → List ℕ) (N : ℕ) → Flies self.old p y N (B.readings bay.old) → Flies self.new p y (N + n) (B.readings bay.new) }
+        ensures told { result.outcome ≡ outcome_of (out_of self.new (B.readings bay.new)) }
         ensures begun { result.begun + self.old.machine.begun ≡ self.new.machine.begun }
         ensures most { result.begun ≤ n }
     {

@@ -46,7 +46,7 @@ impl Machine {
         store: u16,
     ) -> Control
         requires { Ready nodes.now legs.now (tables self.old) (Control.Draw binder store) }
-        ensures { Steps nodes.now legs.now (readings bay.old) (tables self.old) (Control.Draw binder store) (readings bay.new) (tables self.new) result }
+        ensures { Steps nodes.now legs.now (B.readings bay.old) (tables self.old) (Control.Draw binder store) (B.readings bay.new) (tables self.new) result }
     {
         match bay.draw(store as u8) {
             None => Control::Over(Ending::Empty),
@@ -84,7 +84,7 @@ impl Machine {
     ) -> Control
         requires ready { Ready nodes.now legs.now (tables self.old) control }
         requires moves { Moves (tables self.old) control }
-        ensures { Steps nodes.now legs.now (readings bay.old) (tables self.old) control (readings bay.new) (tables self.new) result }
+        ensures { Steps nodes.now legs.now (B.readings bay.old) (tables self.old) control (B.readings bay.new) (tables self.new) result }
     {
         match control {
             Control::Eval(node, scope, depth) => self.begin(nodes, legs, node, scope, depth),
@@ -122,7 +122,7 @@ impl Machine {
     pub(crate) fn fly<B: Bay>(&mut self, nodes: &[Row], legs: &[Leg], bay: &mut B, n: u32) -> Flown
         requires { Ready nodes.now legs.now (tables self.old) self.old.control }
         ensures ready { Ready nodes.now legs.now (tables self.new) self.new.control }
-        ensures flies { Flies nodes.now legs.now n (readings bay.old) (tables self.old) self.old.control (readings bay.new) (tables self.new) self.new.control }
+        ensures flies { Flies nodes.now legs.now n (B.readings bay.old) (tables self.old) self.old.control (B.readings bay.new) (tables self.new) self.new.control }
         ensures told { result.outcome ≡ told (tables self.new) self.new.control }
         ensures begun { result.begun + (tables self.old).begun ≡ (tables self.new).begun }
         ensures most { result.begun ≤ n }

@@ -27,7 +27,7 @@ fn places<S: Scale>(heap: Global, count: usize) -> Result<Vec<S>, AllocError>
 
 // The least grades of a plan with so many binders, under one scale.
 fn column<S: Scale>(heap: Global, bytes: &[u8], count: usize) -> Result<Vec<S>, GradeFault>
-    ensures { ColumnAnswer ops bytes.now count result }
+    ensures { ColumnAnswer S.ops bytes.now count result }
 {
     let Ok(mut work) = places::<S>(heap, WORK_PLACES) else {
         return Err(GradeFault::Plan(PlanFault::Memory));
