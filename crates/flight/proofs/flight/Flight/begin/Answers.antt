@@ -22,17 +22,12 @@ clear-requires c =
 pub invariant_of-self : goal.invariant_of-self
 invariant_of-self c =
     let s = c.args.self.now in
-    let m = c.clear.new.self in (
-      s.legs,
-      (
-        s.main,
-        (
-          ∣ subst (λ (ns : List Row). Ready ns (legs_of s.plan) (tables m) m.control) c.as_slice.ensures.value
-              (subst (λ (gs : List Leg). Ready c.as_slice.result.now gs (tables m) m.control) c.as_slice-2.ensures.value c.clear.ensures.ready) ∣₁,
-          tt,
-        ),
-      ),
-    )
+    let m = c.clear.new.self in record {
+      legs = s.legs;
+      main = s.main;
+      ready = ∣ subst (λ (ns : List Row). Ready ns (legs_of s.plan) (tables m) m.control) c.as_slice.ensures.value
+          (subst (λ (gs : List Leg). Ready c.as_slice.result.now gs (tables m) m.control) c.as_slice-2.ensures.value c.clear.ensures.ready) ∣₁;
+    }
 
 pub returns : goal.returns
 returns c =

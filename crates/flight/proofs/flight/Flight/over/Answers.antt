@@ -27,17 +27,12 @@ invariant_of-result c =
     let q = c.args.plan in
     let m = c.clear.new.self in
     let h : 1 ≤ length (legs_of q) = some_legs q.plan c.requires.0 c.requires.1 in
-    let l : 1 ≤ vec_len q.plan.legs = search rules in (
-      l,
-      (
-        ∣ plan_main q.plan c.requires.0 c.requires.1 ∣₁,
-        (
-          ∣ subst (λ (ns : List Row). Ready ns (legs_of q) (tables m) m.control) c.as_slice.ensures.value
-              (subst (λ (gs : List Leg). Ready c.as_slice.result.now gs (tables m) m.control) c.as_slice-2.ensures.value c.clear.ensures.ready) ∣₁,
-          tt,
-        ),
-      ),
-    )
+    let l : 1 ≤ vec_len q.plan.legs = search rules in record {
+      legs = l;
+      main = ∣ plan_main q.plan c.requires.0 c.requires.1 ∣₁;
+      ready = ∣ subst (λ (ns : List Row). Ready ns (legs_of q) (tables m) m.control) c.as_slice.ensures.value
+          (subst (λ (gs : List Leg). Ready c.as_slice.result.now gs (tables m) m.control) c.as_slice-2.ensures.value c.clear.ensures.ready) ∣₁;
+    }
 
 pub returns : goal.returns
 returns c =
