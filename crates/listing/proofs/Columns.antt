@@ -82,7 +82,8 @@ pub fills : {G : Type 0} (o : Ops G) (work : ℕ) (answers : List G) (bs : List 
 fills o work answers bs p gs w t c e =
     let same : gs ≡ least o p = ok_is (sym e ∙ fits o work (length answers) bs p w t c) in
     let l : length gs ≡ binder_count p = ap length same ∙ legs_counted o (last_first p) in
-    ap (λ r. gs ++ r) (drop_all (length gs) answers (omega arith)) ∙ append-nil gs ∙ same
+    let e : drop (0 + length gs) answers ≡ [] = drop_all (0 + length gs) answers (omega arith) in
+    ap (λ r. gs ++ r) e ∙ append-nil gs ∙ same
 
 -- A list that was lent and came back full.
 pub refilled : {G : Type 0} (o : Ops G) (work n : ℕ) (answers after items : List G) (bs : List ℕ) (gs : List G) → work_places ≤ work → length answers ≡ n → graded o work (length answers) bs ≡ Ok gs → after ≡ put 0 gs answers
@@ -93,7 +94,7 @@ refilled o work n answers after items bs gs w l e a p t c =
     take_at after items n long ∙ full
 
 -- What refuses a column refuses the listing: the plan was read, and has a kind for each binder.
-pub column_refuses : {G Z : Type 0} (o : Ops G) (bs : List ℕ) (n : ℕ) (p : Plan) → typed bs ≡ Ok p → binder_count p ≡ n → (e : GradeFault) → ColumnAnswer {G} {Z} o bs n (Err e) → ListingAnswer bs (Err e)
+pub column_refuses : {G Z : Type 0} (o : Ops G) (bs : List ℕ) (n : ℕ) (p : Plan) → typed bs ≡ Ok p → binder_count p ≡ n → (e : GradeFault) → ColumnAnswer {G = G} {Z = Z} o bs n (Err e) → ListingAnswer bs (Err e)
 column_refuses o bs n p t c Short h = h p t c
 column_refuses o bs n p t c (OfPlan (Read e)) h = h
 column_refuses o bs n p t c (OfPlan (Typing e)) h = h

@@ -16,13 +16,13 @@ loop-k-preserved g c =
       search rules,
       λ h. let before = c.loop-k.invariant.2 h in
           put_line g.W.Write.write_str_gives l k c.write.new.self c.loop-k.f c.write-in-loop-k.new.self before
-          (subst (λ (x : _). HasWritten g.W.Write.write_str_gives c.loop-k.f (line_text x) c.write-in-loop-k.new.self) c.line-line.ensures (c.in_ok-write-2.ensures.shows before.plain refl)),
+          (subst (λ (x : _). HasWritten g.W.Write.write_str_gives c.loop-k.f (line_text x) c.write-in-loop-k.new.self) c.line-line.ensures (c.in_ok-write-2.ensures.writes before.plain refl)),
     )
 
 pub returns-clause-writes : goal.returns-clause-writes
 returns-clause-writes g c = λ p q.
     let l = c.args.self.now in
-    let first = c.in_ok-write.ensures.shows p refl in
+    let first = c.in_ok-write.ensures.writes p refl in
     let e : c.loop-k.k ≡ vec_len l.kinds = omega (arith, c.loop-k.invariant.0, c.loop-k.invariant.1) in
     has_written_append g.W.Write.write_str_gives c.args.f.now (codes "plan\n") c.write.new.self (lines_text l (vec_len l.kinds)) c.loop-k.f first
     (subst (λ (n : ℕ). HasWritten g.W.Write.write_str_gives c.write.new.self (lines_text l n) c.loop-k.f) e (c.loop-k.invariant.2 first.plain))
