@@ -17,7 +17,7 @@ use Rattle.plan.specs.declared.faults.PlanFault.TheVariants.{Read, Typing, Memor
 use Rattle.grader.specs.Walk.{put}
 use Rattle.grader.specs.Grades.{work_places, graded, if_plan}
 use Rattle.listing.specs.Binders.{bound_by, bound_in, params, leg_kinds, binder_kinds}
-use Rattle.listing.specs.Listings.{ColumnAnswer, ListingAnswer}
+use Rattle.listing.specs.Listings.{ColumnRefused, ListingAnswer}
 
 bound_counted : (o : Node) → length (bound_by o) ≡ binders o
 bound_counted Unit' = refl
@@ -94,8 +94,8 @@ refilled o work n answers after items bs gs w l e a p t c =
     take_at after items n long ∙ full
 
 -- What refuses a column refuses the listing: the plan was read, and has a kind for each binder.
-pub column_refuses : {G Z : Type 0} (o : Ops G) (bs : List ℕ) (n : ℕ) (p : Plan) → typed bs ≡ Ok p → binder_count p ≡ n → (e : GradeFault) → ColumnAnswer {G = G} {Z = Z} o bs n (Err e) → ListingAnswer bs (Err e)
-column_refuses o bs n p t c Short h = h p t c
-column_refuses o bs n p t c (OfPlan (Read e)) h = h
-column_refuses o bs n p t c (OfPlan (Typing e)) h = h
-column_refuses o bs n p t c (OfPlan Memory) h = h
+pub column_refuses : (bs : List ℕ) (n : ℕ) (p : Plan) → typed bs ≡ Ok p → binder_count p ≡ n → (e : GradeFault) → ColumnRefused bs n e → ListingAnswer bs (Err e)
+column_refuses bs n p t c Short h = h p t c
+column_refuses bs n p t c (OfPlan (Read e)) h = h
+column_refuses bs n p t c (OfPlan (Typing e)) h = h
+column_refuses bs n p t c (OfPlan Memory) h = h

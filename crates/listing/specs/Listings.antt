@@ -33,13 +33,17 @@ ListingAnswer bs (Err (OfPlan (Read e))) = typed bs ≡ Err (Read e)
 ListingAnswer bs (Err (OfPlan (Typing e))) = typed bs ≡ Err (Typing e)
 ListingAnswer bs (Err (OfPlan Memory)) = Unit {0}
 
+-- Why there are no least grades in a list of n places.
+abbrev pub ColumnRefused : List ℕ → ℕ → GradeFault → Type 0
+ColumnRefused bs n Short = (p : Plan) → typed bs ≡ Ok p → binder_count p ≢ n
+ColumnRefused bs n (OfPlan (Read e)) = typed bs ≡ Err (Read e)
+ColumnRefused bs n (OfPlan (Typing e)) = typed bs ≡ Err (Typing e)
+ColumnRefused bs n (OfPlan Memory) = Unit {0}
+
 -- The least grades under one scale, in a list of n places: they fill it, if the plan has n binders.
 abbrev pub ColumnAnswer : {G Z : Type 0} → Ops G → List ℕ → ℕ → Result (Vec G Z) GradeFault → Type 0
 ColumnAnswer o bs n (Ok v) = (vec_len v ≡ n) × ((p : Plan) → typed bs ≡ Ok p → binder_count p ≡ n → vec_items v ≡ least o p)
-ColumnAnswer o bs n (Err Short) = (p : Plan) → typed bs ≡ Ok p → binder_count p ≢ n
-ColumnAnswer o bs n (Err (OfPlan (Read e))) = typed bs ≡ Err (Read e)
-ColumnAnswer o bs n (Err (OfPlan (Typing e))) = typed bs ≡ Err (Typing e)
-ColumnAnswer o bs n (Err (OfPlan Memory)) = Unit {0}
+ColumnAnswer o bs n (Err e) = ColumnRefused bs n e
 
 abbrev pub line_at : Listing → ℕ → Line
 line_at l k = record {
