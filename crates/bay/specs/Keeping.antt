@@ -1,6 +1,6 @@
 -- Facts of what a layer keeps back. Assumes nothing.
-use Rattle.std.specs.Prelude.{◌≡◌, ℕ, zero, suc, ◌+◌, ◌-◌, ◌^◌, ◌<◌, ◌≤◌, List, [], ◌∷◌, length, take, replicate, Some, None, Option, ◌≢◌, slice_index, refl}
-use Rattle.std.proofs.Common.{sym, ap, ◌∙◌, arith}
+use Rattle.std.specs.Prelude.{◌≡◌, ℕ, suc, ◌-◌, ◌<◌, List, ◌∷◌, length, take, replicate, Some, None, Option, ◌≢◌, slice_index}
+use Rattle.std.proofs.Common.{ap, ◌∙◌, arith}
 use Rattle.std.proofs.lemmas.List.{length-take, take_all}
 use Rattle.bay.specs.Readings.{Draws, DrawsUnder, Words, kept_back, kept_readings}
 use Rattle.bay.specs.Places.{take_below, zeros}

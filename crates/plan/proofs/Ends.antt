@@ -1,13 +1,13 @@
 -- Places in a table of nodes. Assumes nothing.
-use Rattle.std.proofs.Common.{◌≡◌, ℕ, zero, suc, ◌+◌, ◌-◌, ◌<◌, ◌≤◌, Bool, true, false, cond, ◌&&◌, eqb, ltb, ◌⊎◌, List, [], ◌∷◌, ◌++◌, length, get_or, drop, set, Some, None, Option as Maybe, sym, refl, ap, ◌∙◌, subst, ap₂, inl, inr, append_assoc, append-nil, add-zero, add_assoc, add-suc, suc-add, arith, length-append, length-drop, le-ltb, lt-ltb, eq-eqb, ne_eqb}
-use mathlib.Core.Option.{Option, some, none, some-injective}
+use Rattle.std.proofs.Common.{◌≡◌, ℕ, zero, suc, ◌+◌, ◌-◌, ◌<◌, ◌≤◌, Bool, false, eqb, ◌⊎◌, List, [], ◌∷◌, ◌++◌, length, drop, set, Some, None, Option as Maybe, sym, refl, ap, ◌∙◌, subst, ap₂, inl, inr, append-nil, arith, length-append, length-drop, eq-eqb, ne_eqb}
+use mathlib.Core.Option.{some, none, some-injective}
 use lib.Arith.{lt_of_le-ne}
 use Rattle.std.proofs.lemmas.Bool.{cases_eq}
 use Rattle.std.proofs.lemmas.List.{drop_at, drop_all, drop-drop, length-set, get_or-set_same, get_or-set_other}
 use Rattle.plan.specs.declared.Node.{Node}
 use Rattle.plan.specs.declared.Node.TheVariants.{Unit as Unit', Number, Name, Let, Take, Pair, Split, Left, Right, Case, Call, Add, Less}
 use Rattle.plan.specs.declared.Row.{Row}
-use Rattle.plan.specs.Trees.{Term, t_unit, t_number, t_name, t_let, t_take, t_pair, t_split, t_left, t_right, t_case, t_call, t_add, t_less, Terms, t_none, t_more, flat, flats, stack, Stack, on, on_some, one, two, three, taken, more_taken, called}
+use Rattle.plan.specs.Trees.{Term, t_unit, t_number, t_name, t_let, t_take, t_pair, t_split, t_left, t_right, t_case, t_call, t_add, t_less, Terms, t_none, t_more, flat, flats, stack, on, on_some, one, two, three, taken, more_taken, called}
 use Rattle.plan.specs.Table.{nodes_of, top, term_at, no_row, row_at, node_size, skipped, Ended, Whole, Standing, is_one, Closed}
 use Rattle.plan.specs.declared.LegId.{LegId}
 use Rattle.plan.specs.Kinds.{kids_of}

@@ -7,9 +7,9 @@ use Rattle.plan.specs.declared.Row.{Row}
 use Rattle.plan.specs.Kinds.{kids_of}
 use Rattle.plan.specs.Trees.{Term, t_unit, t_number, t_name, t_let, t_take, t_pair, t_split, t_left, t_right, t_case, t_call, t_add, t_less, Terms, t_none, t_more, how_many, flat, flats, head, arguments, kids, stack}
 use Rattle.plan.specs.Table.{nodes_of, term_at, row_at, node_size, Standing, Stand, Spells}
-use Rattle.plan.proofs.Stacks.{flat_all, stack_all, stack_back}
-use Rattle.plan.proofs.Ends.{Here, here, some_nodes, drop_nodes, stack_of_all}
-use Rattle.plan.proofs.Walks.{Kid, kid, stack_from}
+use Rattle.plan.proofs.Stacks.{flat_all, stack_back}
+use Rattle.plan.proofs.Ends.{here, some_nodes, drop_nodes, stack_of_all}
+use Rattle.plan.proofs.Walks.{kid, stack_from}
 
 two_flat : (o : Node) (a b : Term) → o ∷ (flat a ++ flat b) ≡ o ∷ flat_all (a ∷ b ∷ [])
 two_flat o a b = ap (λ l. o ∷ (flat a ++ l)) (sym (append-nil (flat b)))

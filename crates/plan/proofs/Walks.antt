@@ -1,19 +1,14 @@
 -- Expressions at places of the table. Assumes nothing.
-use Rattle.std.proofs.Common.{◌≡◌, ℕ, zero, suc, ◌+◌, ◌-◌, ◌<◌, ◌≤◌, Bool, true, false, cond, ◌||◌, eqb, ◌⊎◌, List, [], ◌∷◌, ◌++◌, length, get_or, drop, set, Some, None, Option as Maybe, sym, refl, ap, ◌∙◌, subst, ap₂, inl, inr, arith, eq-eqb, ne_eqb}
-use mathlib.Core.Option.{Option, some, none, some-injective}
-use Rattle.std.proofs.lemmas.List.{get_or-set_same, get_or-set_other, drop-drop}
-use Rattle.std.proofs.lemmas.Bool.{cases_eq, cases_lt}
-use Rattle.std.proofs.lemmas.Option.{slice_get-get_or, slice_get_past}
-use Rattle.std.specs.List.{slice_get}
+use Rattle.std.proofs.Common.{◌≡◌, ℕ, zero, suc, ◌+◌, ◌<◌, ◌≤◌, false, ◌||◌, ◌⊎◌, List, [], ◌∷◌, length, drop, sym, refl, ap, ◌∙◌, inl, inr, arith}
+use mathlib.Core.Option.{some, none}
+use Rattle.std.proofs.lemmas.Bool.{cases_lt}
 use Rattle.plan.specs.declared.Type.{«Type» as Shape}
-use Rattle.plan.specs.declared.Type.TheVariants.{Unit as UnitType, Number as NumberType, Pair as PairType, Either as EitherType}
 use Rattle.plan.specs.declared.Node.{Node}
-use Rattle.plan.specs.declared.Node.TheVariants.{Unit as Unit', Number, Name, Let, Take, Pair, Split, Left, Right, Case, Call, Add, Less}
 use Rattle.plan.specs.declared.Row.{Row}
-use Rattle.plan.specs.Trees.{Term, t_unit, t_number, t_name, t_let, t_take, t_pair, t_split, t_left, t_right, t_case, t_call, t_add, t_less, Terms, t_none, t_more, flat, flats, stack, Stack, on, on_some, one, two, three, taken, more_taken, called}
+use Rattle.plan.specs.Trees.{Term, stack, Stack, on_some}
 use Rattle.plan.specs.Written.{listed, same_type}
-use Rattle.plan.specs.Table.{nodes_of, top, term_at, no_row, row_at, node_size, Standing}
-use Rattle.plan.proofs.Ends.{Here, here, past, drop_nodes}
+use Rattle.plan.specs.Table.{nodes_of, term_at, row_at, node_size, Standing}
+use Rattle.plan.proofs.Ends.{here, past}
 
 -- whole expressions stand from every place on
 pub stack_from : (os : List Node) (i : ℕ) (ts : List Term) → stack os ≡ some ts → (us : List Term) × (stack (drop i os) ≡ some us)

@@ -1,5 +1,5 @@
 -- What a plan is in bytes, and which plans are well laid. Assumes nothing.
-use Rattle.std.specs.Prelude.{◌≡◌, ℕ, zero, suc, ◌+◌, ◌*◌, ◌/◌, ◌%◌, ◌^◌, ◌<◌, ◌≤◌, Bool, true, false, cond, ◌||◌, List, [], ◌∷◌, ◌++◌, map, length, ◌==◌, slice_index}
+use Rattle.std.specs.Prelude.{◌≡◌, ℕ, zero, suc, ◌+◌, ◌/◌, ◌%◌, ◌^◌, ◌<◌, ◌≤◌, Bool, true, false, cond, ◌||◌, List, [], ◌∷◌, ◌++◌, length, ◌==◌, slice_index}
 use Rattle.plan.specs.declared.Type.{«Type» as Shape}
 use Rattle.plan.specs.declared.Type.TheVariants.{Unit as UnitType, Number as NumberType, Pair as PairType, Either as EitherType}
 use Rattle.plan.specs.declared.Node.{Node}
@@ -7,7 +7,7 @@ use Rattle.plan.specs.declared.Node.TheVariants.{Unit as Unit', Number, Name, Le
 use Rattle.plan.specs.declared.TypeId.{TypeId}
 use Rattle.plan.specs.Kinds.{binders}
 use Rattle.plan.specs.Limits.{max_bytes, max_entries, max_legs, max_params, max_nodes}
-use Rattle.plan.specs.Trees.{Term, Terms, Leg, Plan, flat, the_type}
+use Rattle.plan.specs.Trees.{Leg, Plan, flat, the_type}
 
 -- Each thing's bytes, one after another.
 abbrev pub all_bytes : {X : Type 0} → (X → List ℕ) → List X → List ℕ

@@ -1,20 +1,18 @@
 -- Legs, tables and whole plans: accepted exactly if written. Assumes nothing.
-use Rattle.std.proofs.Common.{◌≡◌, ℕ, zero, suc, ◌+◌, ◌-◌, ◌*◌, ◌/◌, ◌%◌, ◌^◌, ◌<◌, ◌≤◌, Bool, true, false, cond, ◌&&◌, ◌||◌, eqb, ltb, leb, ◌⊎◌, List, [], ◌∷◌, ◌++◌, length, get_or, Ok, Err, Result, sym, refl, ap, ◌∙◌, subst, ap₂, inl, inr, append_assoc, append-nil, arith, length-append, ltb-true, lt-ltb, eqb-true, le-leb, leb-true}
-use mathlib.Core.Option.{Option, some, none, some-injective}
+use Rattle.std.proofs.Common.{◌≡◌, ℕ, ◌+◌, ◌-◌, ◌*◌, ◌/◌, ◌%◌, ◌<◌, ◌≤◌, Bool, true, false, cond, ◌&&◌, ◌||◌, eqb, ltb, leb, List, [], ◌∷◌, ◌++◌, length, Ok, Err, Result, sym, refl, ap, ◌∙◌, subst, ap₂, inl, inr, append_assoc, append-nil, arith, ltb-true, lt-ltb, eqb-true, le-leb, leb-true}
+use mathlib.Core.Option.{some, none}
 use Rattle.std.proofs.lemmas.Bool.{or_cases, and_parts, and_from}
 use Rattle.plan.specs.declared.faults.ReadFault.{ReadFault}
-use Rattle.plan.specs.declared.faults.ReadFault.TheVariants.{Cut, Bits, Limit, «Ref», Shape as NotOne, Tail}
+use Rattle.plan.specs.declared.faults.ReadFault.TheVariants.{Bits, Limit, «Ref»}
 use Rattle.plan.specs.declared.Type.{«Type» as Shape}
 use Rattle.plan.specs.declared.Type.TheVariants.{Unit as UnitType, Number as NumberType, Pair as PairType, Either as EitherType}
-use Rattle.plan.specs.declared.Node.{Node}
 use Rattle.plan.specs.declared.TypeId.{TypeId}
 use Rattle.plan.specs.Limits.{max_bytes, max_entries, max_legs, max_params, max_nodes}
 use Rattle.plan.specs.Trees.{Term, Leg, Plan, flat, stack, Stack, the_type}
-use Rattle.plan.specs.Written
 use Rattle.plan.specs.Written.{all_bytes, node_bytes, entry_bytes, table_bytes, nodes_bytes, type_byte, leg_bytes, map_byte, written, Run, built_in, listed, New, EntryLaid, with_entry, with_node, NodeLaid, Before, none_before, with_leg, same_state, Below, LegLaid, WellLaid}
 use Rattle.reader.specs.Reading.{Got, then_read, many, byte_if, read_type, entry_of, new_entry, read_entry, read_node, read_count, single, read_body, read_params, read_leg, between, read_table, read_map, read_legs, read_front, read_plan, to_the_end, read}
 use Rattle.reader.specs.Laws.{Bytes, ReadExactly}
-use Rattle.reader.proofs.Exact.{Exact, bytes_after, then_inv, then_on, ok_same, cond_ok, lone, byte_exact, many_sound, many_full}
+use Rattle.reader.proofs.Exact.{Exact, bytes_after, then_inv, then_on, ok_same, cond_ok, byte_exact, many_sound, many_full}
 use Rattle.plan.proofs.Stacks.{stack_one, one_back_flat}
 use Rattle.plan.proofs.Ends.{some_nodes}
 use Rattle.reader.proofs.Nodes.{node_exact}

@@ -1,7 +1,7 @@
 -- Readers that accept exactly what is written. Assumes nothing.
-use Rattle.std.proofs.Common.{◌≡◌, ℕ, zero, suc, ◌+◌, ◌-◌, ◌<◌, ◌≤◌, Bool, true, false, cond, List, [], ◌∷◌, ◌++◌, length, Ok, Err, Result, sym, refl, ap, ◌∙◌, subst, ap₂, append_assoc, append-nil, arith}
+use Rattle.std.proofs.Common.{◌≡◌, ℕ, zero, suc, ◌-◌, Bool, true, false, cond, List, [], ◌∷◌, ◌++◌, length, Ok, Err, Result, sym, refl, ap, ◌∙◌, subst, ap₂, append_assoc, arith}
 use Rattle.plan.specs.declared.faults.ReadFault.{ReadFault}
-use Rattle.plan.specs.Written.{Each, Run, all_bytes}
+use Rattle.plan.specs.Written.{Run, all_bytes}
 use Rattle.reader.specs.Reading.{Got, then_read, many, byte_if}
 use Rattle.reader.specs.Laws.{Bytes}
 

@@ -1,6 +1,6 @@
 -- A leg, from its parts. Assumes nothing.
-use Rattle.std.proofs.Common.{◌≡◌, ℕ, zero, suc, ◌+◌, ◌-◌, ◌*◌, ◌<◌, ◌≤◌, Bool, true, false, List, [], ◌∷◌, ◌++◌, length, get_or, take, drop, Ok, Err, Result, sym, refl, ap, ◌∙◌, subst, ap₂, arith, length-append, Bor}
-use mathlib.Core.Option.{Option, some, none}
+use Rattle.std.proofs.Common.{◌≡◌, ℕ, ◌+◌, ◌-◌, ◌*◌, ◌<◌, ◌≤◌, Bool, true, false, List, [], ◌∷◌, ◌++◌, length, drop, Ok, Err, Result, sym, refl, ap, ◌∙◌, subst, ap₂, arith, length-append, Bor}
+use mathlib.Core.Option.{some, none}
 use Rattle.std.proofs.lemmas.List.{drop_at, get_or_append_left}
 use Rattle.plan.specs.declared.faults.ReadFault.TheVariants.{Shape as NotOne}
 use Rattle.plan.specs.declared.Node.{Node}
@@ -9,9 +9,9 @@ use Rattle.plan.specs.declared.Leg.{Leg as FlatLeg}
 use Rattle.plan.specs.Trees.{Term, Leg, Stack, stack, flat}
 use Rattle.plan.specs.declared.TypeId.{TypeId}
 use Rattle.plan.specs.Kinds.{binders}
-use Rattle.plan.specs.Written.{with_node, binders_in, Before, with_leg}
+use Rattle.plan.specs.Written.{with_node, binders_in, with_leg}
 use Rattle.plan.specs.declared.Node.TheVariants.{Unit as Unit', Number, Name, Let, Take, Pair, Split, Left, Right, Case, Call, Add, Less}
-use Rattle.plan.specs.Table.{nodes_of, top, term_at, row_at, no_row, node_size, Standing, InOrder, is_one, Closed}
+use Rattle.plan.specs.Table.{nodes_of, top, term_at, no_row, node_size, Standing, InOrder, is_one, Closed}
 use Rattle.reader.specs.Reading.{Got, then_read, many, read_params, read_type, read_count, read_node, read_body, read_leg, single, read_front}
 use Rattle.plan.specs.Plans.{params_of, leg_in, legs_in}
 use Rattle.reader.specs.Replies.{arities_of, before_of, LegRead, TableAnswer, MapAnswer}

@@ -1,16 +1,15 @@
 -- A node's bytes. Assumes nothing.
-use Rattle.std.proofs.Common.{◌≡◌, ℕ, zero, suc, ◌+◌, ◌-◌, ◌*◌, ◌/◌, ◌%◌, ◌^◌, ◌<◌, ◌≤◌, Bool, true, false, cond, ◌&&◌, ◌||◌, eqb, ltb, leb, ◌⊎◌, List, [], ◌∷◌, ◌++◌, length, get_or, Some, None, Ok, Err, Option, Result, sym, refl, ap, ◌∙◌, subst, ap₂, inl, inr, append_assoc, append-nil, arith, ltb-true, lt-ltb, eqb-true, leb-true}
+use Rattle.std.proofs.Common.{◌≡◌, ℕ, zero, suc, ◌+◌, ◌-◌, ◌*◌, ◌/◌, ◌%◌, ◌^◌, ◌<◌, ◌≤◌, Bool, true, false, cond, eqb, ltb, leb, ◌⊎◌, List, [], ◌∷◌, ◌++◌, length, get_or, Some, None, Ok, Err, Option, sym, refl, ap, ◌∙◌, subst, ap₂, inl, inr, arith, ltb-true, lt-ltb, eqb-true, leb-true}
 use lib.Dec.{eqb-suc-zero}
-use Rattle.plan.specs.declared.faults.ReadFault.{ReadFault}
-use Rattle.plan.specs.declared.faults.ReadFault.TheVariants.{Bits, «Ref»}
+use Rattle.plan.specs.declared.faults.ReadFault.TheVariants.{Bits}
 use Rattle.plan.specs.declared.Node.{Node}
 use Rattle.plan.specs.declared.Node.TheVariants.{Unit as Unit', Number, Name, Let, Take, Pair, Split, Left, Right, Case, Call, Add, Less}
-use Rattle.plan.specs.Written.{Each, node_bytes, byte_field, number_field, NodeLaid}
+use Rattle.plan.specs.Written.{node_bytes, byte_field, number_field, NodeLaid}
 use Rattle.plan.specs.declared.kinds.Field.{Field}
 use Rattle.plan.specs.declared.kinds.Field.TheVariants.{Absent, Byte, Number as Word}
 use Rattle.plan.specs.Kinds.{rule, announced, shape_of}
 use Rattle.plan.specs.Trees.{the_type, the_leg, the_level, the_binder}
-use Rattle.reader.specs.Reading.{Got, Head, not_zero, read_byte, read_number, by_shape, read_head, typed_node, candidates, node_of, field_place, there, node_from, read_node}
+use Rattle.reader.specs.Reading.{Head, not_zero, read_byte, read_number, by_shape, typed_node, node_of, field_place, there, node_from, read_node}
 use Rattle.reader.specs.Laws.{Bytes}
 use Rattle.reader.proofs.Exact.{Exact, ok_same}
 

@@ -1,10 +1,9 @@
 -- The front of a slice, and what is read there. Assumes nothing.
-use Rattle.std.proofs.Common.{◌≡◌, ℕ, zero, suc, ◌+◌, ◌-◌, ◌*◌, ◌<◌, ◌≤◌, Bool, true, false, cond, ◌||◌, eqb, ltb, leb, List, [], ◌∷◌, ◌++◌, length, get_or, take, drop, Some, None, Ok, Err, Option, Result, sym, refl, ap, ◌∙◌, subst, ap₂, arith, length-drop, length-take, Bor, le-ltb, lt-ltb, eq-eqb, ne_eqb, le-leb}
-use borrow.Author.Tests.{lt-leb}
+use Rattle.std.proofs.Common.{◌≡◌, ℕ, zero, suc, ◌+◌, ◌-◌, ◌*◌, ◌<◌, ◌≤◌, true, false, cond, ◌||◌, eqb, leb, List, [], ◌∷◌, length, get_or, Some, None, Ok, Err, Option, Result, sym, refl, ap, ◌∙◌, subst, arith, Bor, le-ltb, lt-ltb, eq-eqb, ne_eqb, le-leb}
 use Rattle.std.proofs.lemmas.List.{take_rest}
-use Rattle.plan.specs.declared.faults.ReadFault.TheVariants.{Cut, Bits, Limit, «Ref», Shape as NotOne, Tail}
+use Rattle.plan.specs.declared.faults.ReadFault.TheVariants.{Limit, «Ref»}
 use Rattle.plan.specs.declared.Type.{«Type» as Shape}
-use Rattle.plan.specs.Written.{listed, same_type}
+use Rattle.plan.specs.Written.{listed}
 use Rattle.reader.specs.Reading.{Got, not_zero, by_shape, read_head, byte_if, read_type, between, read_count, node_of, then_read, new_entry, entry_of, read_entry}
 use Rattle.plan.specs.declared.faults.ReadFault.{ReadFault}
 use Rattle.plan.specs.declared.Type.TheVariants.{Pair as PairType, Either as EitherType}

@@ -1,8 +1,8 @@
 -- From the tables to the plan. Assumes nothing.
-use Rattle.std.proofs.Common.{◌≡◌, ℕ, zero, suc, ◌<◌, List, [], ◌∷◌, ◌++◌, get_or, drop, Ok, Err, vec_items, Result, sym, subst}
+use Rattle.std.proofs.Common.{◌≡◌, ℕ, suc, ◌<◌, List, [], ◌∷◌, ◌++◌, get_or, drop, Ok, Err, vec_items, Result, sym, subst}
 use Rattle.plan.specs.declared.faults.PlanFault.{PlanFault}
 use Rattle.plan.specs.declared.Plan.{Plan as FlatPlan}
-use Rattle.reader.specs.Laws.{Bytes, ReadExactly}
+use Rattle.reader.specs.Laws.{Bytes}
 use Rattle.plan.specs.Written.{built_in}
 use Rattle.plan.specs.Table.{Standing, InOrder}
 use Rattle.reader.specs.Reading.{read}

@@ -1,10 +1,10 @@
 -- The plan that bytes hold, or the first fault and its place. Assumes nothing.
-use Rattle.std.specs.Prelude.{◌≡◌, ℕ, zero, suc, ◌+◌, ◌-◌, ◌*◌, ◌<◌, ◌≤◌, Bool, true, false, cond, ◌&&◌, ◌||◌, ltb, List, [], ◌∷◌, ◌++◌, length, Some, None, Ok, Err, Option as Maybe, Result, ◌==◌, nat_le, nat_lt, slice_index, slice_index_or}
-use Rattle.std.proofs.Math.Option.{Option, some, none}
+use Rattle.std.specs.Prelude.{ℕ, zero, suc, ◌+◌, ◌-◌, ◌*◌, Bool, cond, ◌&&◌, ◌||◌, ltb, List, [], ◌∷◌, length, Some, None, Ok, Err, Option as Maybe, Result, ◌==◌, nat_le, nat_lt, slice_index, slice_index_or}
+use Rattle.std.proofs.Math.Option.{some, none}
 use Rattle.plan.specs.declared.faults.ReadFault.{ReadFault}
 use Rattle.plan.specs.declared.faults.ReadFault.TheVariants.{Cut, Bits, Limit, «Ref», Shape as NotOne, Tail}
 use Rattle.plan.specs.declared.Type.{«Type» as Shape}
-use Rattle.plan.specs.declared.Type.TheVariants.{Unit as UnitType, Number as NumberType, Pair as PairType, Either as EitherType}
+use Rattle.plan.specs.declared.Type.TheVariants.{Pair as PairType, Either as EitherType}
 use Rattle.plan.specs.declared.Node.{Node}
 use Rattle.plan.specs.declared.Node.TheVariants.{Unit as Unit', Number, Name, Let, Take, Pair, Split, Left, Right, Case, Call, Add, Less}
 use Rattle.plan.specs.declared.TypeId.{TypeId}
@@ -12,7 +12,7 @@ use Rattle.plan.specs.declared.kinds.Field.{Field}
 use Rattle.plan.specs.declared.kinds.Field.TheVariants.{Absent, Byte, Number as Word}
 use Rattle.plan.specs.Kinds.{shape_of}
 use Rattle.plan.specs.Limits.{max_bytes, max_entries, max_legs, max_params, max_nodes}
-use Rattle.plan.specs.Trees.{Term, Leg, Plan, flat, stack, Stack, the_type, the_leg, the_level, the_binder}
+use Rattle.plan.specs.Trees.{Term, Leg, Plan, stack, Stack, the_type, the_leg, the_level, the_binder}
 use Rattle.plan.specs.Written.{built_in, listed, same_state, with_entry, with_node, with_leg, Before, none_before}
 
 -- What is read off the front, and the bytes after it.

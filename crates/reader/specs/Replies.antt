@@ -1,5 +1,5 @@
 -- What the reader's functions answer, beside what is defined. Assumes nothing.
-use Rattle.std.specs.Prelude.{◌≡◌, ℕ, ◌+◌, ◌<◌, ◌≤◌, List, [], ◌∷◌, ◌++◌, length, take, drop, Ok, Err, Result, ◌≢◌}
+use Rattle.std.specs.Prelude.{◌≡◌, ℕ, ◌<◌, ◌≤◌, List, [], ◌∷◌, ◌++◌, length, take, drop, Ok, Err, Result, ◌≢◌}
 use Rattle.std.specs.Borrow.{Bor}
 use Rattle.plan.specs.declared.faults.ReadFault.{ReadFault}
 use Rattle.plan.specs.declared.faults.PlanFault.{PlanFault}

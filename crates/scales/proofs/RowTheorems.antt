@@ -1,9 +1,9 @@
 -- The laws of rows, and theorems over every lawful scale.
-use Rattle.std.proofs.Common.{◌≡◌, ℕ, zero, suc, ◌+◌, ◌<◌, Bool, true, false, ◌&&◌, List, [], ◌∷◌, ◌++◌, map, length, get_or, take, replicate, sym, refl, ap, ◌∙◌, subst, ap₂, arith}
+use Rattle.std.proofs.Common.{◌≡◌, ℕ, zero, suc, ◌+◌, ◌<◌, true, false, List, [], ◌∷◌, ◌++◌, length, get_or, take, sym, refl, ap, ◌∙◌, subst, ap₂, arith}
 use Rattle.std.proofs.lemmas.List.{take_more}
 use Rattle.std.proofs.lemmas.Bool.{and_parts, and_from, both_ways}
 use Rattle.scales.specs.Laws.{Ops, Laws}
-use Rattle.scales.specs.Rows.{zipInto, row_plus, row_join, row_times, row_zero, row_leq, total, RowLaws, Regroups, Swaps}
+use Rattle.scales.specs.Rows.{row_plus, row_join, row_times, row_zero, row_leq, total, RowLaws, Regroups, Swaps}
 use Rattle.scales.proofs.RowLists.{leq_places, places_leq}
 
 module _ {S : Type 0} {o : Ops S} (L : Laws o) where

@@ -1,10 +1,9 @@
 -- Sets by their members, and the grade one of sets.
-use Rattle.std.proofs.Common.{◌≡◌, ℕ, zero, suc, ◌+◌, ◌<◌, ◌≤◌, min, Bool, true, false, cond, ◌||◌, ltb, ◌⊎◌, sym, refl, ap, ◌∙◌, subst, inl, inr, arith}
+use Rattle.std.proofs.Common.{◌≡◌, ℕ, zero, suc, ◌<◌, ◌≤◌, min, true, ltb, sym, ap, ◌∙◌, subst, inl, inr, arith}
 use Rattle.std.proofs.lemmas.Bool.{ltb-true, ltb-false, lt-ltb, le-ltb, or_left, or_right, cases_eq, cases_Bool, cond_both, cond-true, cond-false, both_ways}
 use Rattle.scales.specs.Laws.{ones, ExactlyOne}
 use Rattle.scales.specs.Masks.{bit}
-use Rattle.scales.specs.Set.{◌∈◌, ByMembers, set_ops, set_zero, set_one, set_join, set_ceiling, highest, bounded}
-use Rattle.scales.specs.declared.scale.Ceiling.{Ceiling}
+use Rattle.scales.specs.Set.{◌∈◌, ByMembers, set_ops, set_zero, set_one, set_ceiling, highest, bounded}
 use Rattle.scales.specs.declared.scale.Ceiling.TheVariants.{Count, Unbounded}
 use Rattle.scales.specs.declared.set.Set.{Set}
 use Rattle.scales.specs.SetLaws.{ext, has_lt, has_some, zero_of, one_of, zero_has, one_has, plus_of, plus_has, times_of, times_has, repeated_zero, repeated_suc, repeated_one_has, ones_repeated, below_sub, sub_below, join_of, bit_of_or, highest_ge}

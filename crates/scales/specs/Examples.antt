@@ -1,5 +1,5 @@
 -- Sums and scalings worked out, as one statement over the definitions of spans and sets.
-use Rattle.std.specs.Prelude.{◌≡◌, ℕ, ◌≤◌, List, [], ◌∷◌}
+use Rattle.std.specs.Prelude.{◌≡◌, ℕ, ◌≤◌, [], ◌∷◌}
 use Rattle.std.proofs.Common.{arith}
 use Rattle.scales.specs.Ends.{greatest}
 use Rattle.scales.specs.Span.{span_plus, span_times}

@@ -1,6 +1,6 @@
 -- The laws of two scales side by side, from those of each.
-use Rattle.std.specs.Prelude.{◌≡◌, ℕ, zero, suc, ◌≤◌, Bool, true, false, ◌&&◌, refl}
-use Rattle.std.proofs.Common.{ap, ap₂, subst, sym, arith}
+use Rattle.std.specs.Prelude.{◌≡◌, ℕ, zero, suc, true, refl}
+use Rattle.std.proofs.Common.{ap, ap₂, subst, arith}
 use Rattle.std.proofs.lemmas.Bool.{and_parts, and_from}
 use Rattle.scales.specs.Laws.{Laws, Ops, Within, ones}
 use Rattle.scales.specs.Ends.{end_min}

@@ -1,6 +1,6 @@
 -- Numbers that stop at K.
-use Rattle.std.specs.Prelude.{◌≡◌, ℕ, zero, suc, ◌+◌, ◌*◌, ◌<◌, ◌≤◌, min, ◌⊎◌, refl}
-use Rattle.std.proofs.Common.{sym, ap, ◌∙◌, inl, inr, mul_comm, mul-le-mul_right, mul-zero, arith}
+use Rattle.std.specs.Prelude.{◌≡◌, ℕ, zero, suc, ◌*◌, min}
+use Rattle.std.proofs.Common.{ap, ◌∙◌, inl, inr, mul_comm, mul-le-mul_right, mul-zero, arith}
 use Rattle.std.proofs.lemmas.Bool.{cases_lt}
 
 -- a factor may be capped first

@@ -1,14 +1,13 @@
 -- The laws of sets, by their members.
-use Rattle.std.specs.Prelude.{◌≡◌, ℕ, zero, suc, ◌+◌, ◌*◌, ◌/◌, ◌%◌, ◌^◌, ◌<◌, ◌≤◌, min, max, Bool, true, false, cond, ◌&&◌, ◌||◌, eqb, ◌⊎◌, ◌==◌, ◌≢◌, nat_lt, refl}
+use Rattle.std.specs.Prelude.{◌≡◌, ℕ, zero, suc, ◌+◌, ◌/◌, ◌%◌, ◌^◌, ◌<◌, ◌≤◌, min, max, Bool, true, false, ◌&&◌, ◌||◌, eqb, ◌⊎◌, ◌==◌, ◌≢◌, nat_lt, refl}
 use Rattle.std.proofs.Common.{sym, ap, ap₂, ◌∙◌, subst, inl, inr, zero-add, suc-add, arith}
 use mathlib.Core.HLevel.{is_prop→PathP}
 use Rattle.std.proofs.Math.Bridge.{le_prop}
 use Rattle.std.specs.Int.Bits.{bit_and, bit_or, and_step, or_step, and_lt}
-use Rattle.std.proofs.lemmas.Bool.{eq-eqb, ne_eqb, eqb-true, ltb-true, ltb-false, and_parts, and_from, or_cases, or_left, or_right, cases_lt, cases_eq, cond_both, both_ways}
+use Rattle.std.proofs.lemmas.Bool.{eq-eqb, eqb-true, ltb-true, and_parts, and_from, or_cases, or_left, or_right, cases_lt, cases_eq, cond_both, both_ways}
 use Rattle.scales.specs.Laws.{Laws, Within, ones}
-use Rattle.scales.specs.Masks.{bit, sum, repeated, product, bit_lt, some_bit, sum_of, sum_has, product_of, product_has}
-use Rattle.scales.specs.Set.{set_ops, set_zero, set_one, set_plus, set_repeated, set_times, set_leq, set_join, set_ceiling, highest, bounded}
-use Rattle.scales.specs.declared.scale.Ceiling.{Ceiling}
+use Rattle.scales.specs.Masks.{bit, repeated, bit_lt, some_bit, sum_of, sum_has, product_of, product_has}
+use Rattle.scales.specs.Set.{set_ops, set_zero, set_one, set_plus, set_repeated, set_times, set_leq, set_join, set_ceiling, highest}
 use Rattle.scales.specs.declared.scale.Ceiling.TheVariants.{Count, Unbounded}
 use Rattle.scales.specs.declared.set.Set.{Set}
 

@@ -1,7 +1,7 @@
 -- Spans, by their ends. Each operation works on the low ends and on the high ends.
-use Rattle.std.specs.Prelude.{ℕ, ◌+◌, ◌*◌, ◌≤◌, min, max, Bool, ◌&&◌, nat_le}
+use Rattle.std.specs.Prelude.{◌+◌, ◌*◌, min, Bool, ◌&&◌, nat_le}
 use Rattle.std.proofs.Common.{mul-le-mul, arith}
-use Rattle.scales.specs.Ends.{greatest, size, room, end_plus, end_times, end_leq, end_max, size_plus, size_times, size_max, room_plus, room_times, room_max}
+use Rattle.scales.specs.Ends.{greatest, end_plus, end_times, end_leq, end_max, size_plus, size_times, size_max, room_plus, room_times, room_max}
 use Rattle.scales.specs.Laws.{Ops}
 use Rattle.scales.specs.declared.scale.Ceiling.{Ceiling}
 use Rattle.scales.specs.declared.scale.Ceiling.TheVariants.{Count}

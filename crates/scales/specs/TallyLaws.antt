@@ -1,8 +1,8 @@
 -- The laws of none, one, many: each by its cases.
-use Rattle.std.specs.Prelude.{◌≡◌, ℕ, zero, suc, ◌≤◌, Bool, true, false, refl}
-use Rattle.std.proofs.Common.{arith, lit≤}
+use Rattle.std.specs.Prelude.{◌≡◌, ℕ, zero, suc, true, refl}
+use Rattle.std.proofs.Common.{arith}
 use Rattle.scales.specs.Laws.{Laws, Within, ones, ExactlyOne}
-use Rattle.scales.specs.Tally.{tally_ops, tally_plus, tally_times, tally_leq, tally_join, tally_ceiling}
+use Rattle.scales.specs.Tally.{tally_ops, tally_leq, tally_ceiling}
 use Rattle.scales.specs.declared.tally.Tally.{Tally}
 use Rattle.scales.specs.declared.tally.Tally.TheVariants.{Zero, One, Many}
 

@@ -1,5 +1,5 @@
 -- How grades print.
-use Rattle.std.specs.Prelude.{ℕ, zero, suc, Bool, true, false, cond, List, [], ◌∷◌, ◌++◌, codes, decimal}
+use Rattle.std.specs.Prelude.{ℕ, zero, suc, cond, List, [], ◌∷◌, ◌++◌, codes, decimal}
 use Rattle.scales.specs.Set.{member}
 use Rattle.scales.specs.declared.scale.Ceiling.{Ceiling}
 use Rattle.scales.specs.declared.scale.Ceiling.TheVariants.{Count, Unbounded}

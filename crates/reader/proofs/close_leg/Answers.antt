@@ -1,4 +1,4 @@
-use Rattle.std.proofs.Common.{◌≡◌, length, take, drop, vec_items, vec_len, sym, refl, ap, ◌∙◌, subst, rules}
+use Rattle.std.proofs.Common.{◌≡◌, length, take, drop, vec_items, sym, refl, subst, rules}
 use Rattle.std.proofs.lemmas.List.{take_at}
 use Rattle.plan.specs.Table.{Closed}
 use Rattle.reader.proofs.close_leg.Goals as goal

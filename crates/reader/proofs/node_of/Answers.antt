@@ -1,4 +1,4 @@
-use Rattle.std.proofs.Common.{◌≡◌, [], Some, None, sym, ap, ◌∙◌, subst}
+use Rattle.std.proofs.Common.{sym, ap, ◌∙◌}
 use Rattle.reader.specs.Reading.{node_of}
 use Rattle.reader.specs.Replies.{arities_of}
 use Rattle.reader.proofs.Slices.{call_there, call_not}

@@ -1,6 +1,6 @@
-use Rattle.std.proofs.Common.{◌≡◌, sym, refl, ap, ◌∙◌, subst, arith}
+use Rattle.std.proofs.Common.{arith}
 use Rattle.std.proofs.lemmas.Result.{err_from_is_err_and}
-use Rattle.plan.specs.declared.faults.PlanFault.TheVariants.{Read, Memory}
+use Rattle.plan.specs.declared.faults.PlanFault.TheVariants.{Memory}
 use Rattle.reader.specs.Laws.{Bytes}
 use Rattle.reader.proofs.Accept.{read_exactly}
 use Rattle.reader.proofs.Whole.{bytes_are, refuses, reads}

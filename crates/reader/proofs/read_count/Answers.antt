@@ -1,4 +1,4 @@
-use Rattle.std.proofs.Common.{◌≡◌, ◌+◌, ◌*◌, ◌<◌, ◌≤◌, length, get_or, ap, ◌∙◌, arith, rules}
+use Rattle.std.proofs.Common.{◌+◌, ◌*◌, ◌≤◌, length, get_or, ap, ◌∙◌, arith, rules}
 use Rattle.reader.specs.Reading.{read_count}
 use Rattle.plan.proofs.Fronts.{rest_of, rest_length}
 use Rattle.reader.proofs.Slices.{front2, count_there}

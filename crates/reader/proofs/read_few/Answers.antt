@@ -1,4 +1,4 @@
-use Rattle.std.proofs.Common.{◌≡◌, ◌<◌, ◌≤◌, length, get_or, ap, ◌∙◌, arith, rules}
+use Rattle.std.proofs.Common.{◌≤◌, length, get_or, ap, ◌∙◌, arith, rules}
 use Rattle.plan.specs.declared.faults.ReadFault.TheVariants.{Limit}
 use Rattle.reader.specs.Reading.{byte_if, between}
 use Rattle.plan.proofs.Fronts.{front1, rest_of, rest_length}

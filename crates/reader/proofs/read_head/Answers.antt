@@ -1,7 +1,7 @@
-use Rattle.std.proofs.Common.{◌≡◌, ℕ, ◌-◌, ◌<◌, ◌≤◌, ◌∷◌, length, get_or, Some, sym, refl, ap, ◌∙◌, subst, arith, rules}
+use Rattle.std.proofs.Common.{◌≡◌, ℕ, ◌-◌, ◌<◌, ◌≤◌, ◌∷◌, length, get_or, Some, sym, ap, ◌∙◌, arith, rules}
 use Rattle.plan.specs.declared.kinds.Field.TheVariants.{Absent, Byte, Number as Word}
 use Rattle.plan.specs.Kinds.{shape_of}
-use Rattle.reader.specs.Reading.{by_shape, not_zero}
+use Rattle.reader.specs.Reading.{not_zero}
 use Rattle.plan.proofs.Fronts.{front1, rest_of, rest_length}
 use Rattle.reader.proofs.Slices.{front2, front5, head_by, valued}
 use Rattle.reader.proofs.Nodes.{shaped, own_field, word_kind}

@@ -1,6 +1,5 @@
-use Rattle.std.proofs.Common.{◌≡◌, ℕ, ◌+◌, ◌≤◌, List, [], ◌∷◌, ◌++◌, length, take, Ok, Err, vec_items, vec_len, vec_capacity, sym, refl, ap, ◌∙◌, subst, arith, rules}
+use Rattle.std.proofs.Common.{◌≡◌, length, take, Ok, vec_items, sym, refl, ◌∙◌, subst, arith, rules}
 use Rattle.std.proofs.lemmas.List.{length-take-le}
-use Rattle.plan.specs.declared.Row.{Row}
 use Rattle.plan.specs.Table.{Closed}
 use Rattle.reader.specs.Reading.{read_count}
 use Rattle.reader.proofs.Legs.{leg_fails, leg_made}

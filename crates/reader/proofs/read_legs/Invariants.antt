@@ -1,4 +1,4 @@
-use Rattle.std.proofs.Common.{◌≡◌, ◌+◌, ◌-◌, ◌*◌, ◌<◌, ◌≤◌, length, vec_items, vec_len, vec_capacity}
+use Rattle.std.proofs.Common.{◌≡◌, ◌+◌, ◌-◌, ◌*◌, ◌≤◌, length, vec_items, vec_len, vec_capacity}
 use Rattle.plan.specs.Written.{with_leg, none_before}
 use Rattle.plan.specs.Table.{Standing, InOrder}
 use Rattle.reader.specs.Reading.{read_leg}

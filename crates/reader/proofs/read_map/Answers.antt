@@ -1,7 +1,6 @@
-use Rattle.std.proofs.Common.{◌≡◌, ℕ, ◌+◌, ◌≤◌, List, [], ◌∷◌, ◌++◌, length, get_or, Ok, Err, vec_items, Result, sym, refl, ap, ◌∙◌, subst, arith, rules}
+use Rattle.std.proofs.Common.{◌≡◌, ◌≤◌, [], ◌∷◌, ◌++◌, length, get_or, vec_items, ap, ◌∙◌, arith, rules}
 use Rattle.plan.specs.Written.{built_in}
-use Rattle.reader.specs.Reading.{read_front, read_table}
-use Rattle.reader.specs.Replies.{TableAnswer, MapAnswer}
+use Rattle.reader.specs.Reading.{read_front}
 use Rattle.plan.proofs.Fronts.{front1, rest_of, rest_length}
 use Rattle.reader.proofs.Legs.{map_of_table}
 use Rattle.reader.proofs.read_map.Goals as goal

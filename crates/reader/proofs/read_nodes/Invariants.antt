@@ -1,4 +1,4 @@
-use Rattle.std.proofs.Common.{◌≡◌, ◌+◌, ◌-◌, ◌*◌, ◌<◌, ◌≤◌, List, ◌++◌, length, vec_items, vec_len, vec_capacity}
+use Rattle.std.proofs.Common.{◌≡◌, ◌+◌, ◌-◌, ◌*◌, ◌≤◌, List, ◌++◌, length, vec_items, vec_len, vec_capacity}
 use Rattle.plan.specs.declared.Row.{Row}
 use Rattle.plan.specs.Table.{nodes_of}
 use Rattle.plan.specs.Written.{with_node, binders_in}

@@ -1,9 +1,8 @@
-use Rattle.std.proofs.Common.{◌≡◌, ◌+◌, ◌<◌, ◌≤◌, length, take, set, sym, refl, ap, ◌∙◌, subst, arith, rules}
+use Rattle.std.proofs.Common.{◌+◌, ◌<◌, length, take, sym, ap, ◌∙◌, subst, arith, rules}
 use Rattle.std.proofs.lemmas.List.{length-set, take_more_set}
 use Rattle.std.proofs.lemmas.Result.{err_from_is_err_and}
-use Rattle.plan.specs.declared.faults.ReadFault.TheVariants.{Limit}
 use Rattle.plan.specs.Written.{same_state}
-use Rattle.reader.specs.Reading.{then_read, many, byte_if, between, read_type}
+use Rattle.reader.specs.Reading.{then_read, many, read_type}
 use Rattle.reader.proofs.Loops.{Left, left_next, left_fails}
 use Rattle.reader.proofs.read_params.Goals as goal
 

@@ -1,4 +1,4 @@
-use Rattle.std.proofs.Common.{◌≡◌, ◌+◌, ◌-◌, ◌<◌, ◌≤◌, length, take}
+use Rattle.std.proofs.Common.{◌≡◌, ◌-◌, ◌≤◌, length, take}
 use Rattle.plan.specs.Written.{same_state}
 use Rattle.reader.specs.Reading.{read_type}
 use Rattle.reader.proofs.Loops.{Left}

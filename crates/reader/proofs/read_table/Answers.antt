@@ -1,8 +1,7 @@
-use Rattle.std.proofs.Common.{◌≡◌, ◌+◌, ◌<◌, ◌≤◌, List, [], ◌∷◌, ◌++◌, length, Ok, vec_items, vec_len, vec_capacity, sym, refl, ap, ◌∙◌, subst, append_assoc, arith, rules}
+use Rattle.std.proofs.Common.{◌≡◌, ◌+◌, [], ◌∷◌, ◌++◌, Ok, sym, ap, ◌∙◌, subst, append_assoc, arith, rules}
 use Rattle.std.proofs.lemmas.Result.{err_from_is_err_and}
-use Rattle.plan.specs.declared.faults.ReadFault.TheVariants.{Limit}
 use Rattle.plan.specs.Written.{with_entry, built_in}
-use Rattle.reader.specs.Reading.{then_read, many, byte_if, between, read_entry}
+use Rattle.reader.specs.Reading.{then_read, many, read_entry}
 use Rattle.reader.proofs.Loops.{Left, left_next, left_fails}
 use Rattle.reader.proofs.read_table.Goals as goal
 

@@ -1,4 +1,4 @@
-use Rattle.std.proofs.Common.{◌≡◌, ◌+◌, ◌-◌, ◌<◌, ◌≤◌, List, ◌++◌, length, vec_items, vec_len, vec_capacity}
+use Rattle.std.proofs.Common.{◌≡◌, ◌+◌, ◌-◌, ◌≤◌, List, ◌++◌, length, vec_items, vec_len, vec_capacity}
 use Rattle.plan.specs.declared.Type.{«Type» as Shape}
 use Rattle.plan.specs.Written.{with_entry, built_in}
 use Rattle.reader.specs.Reading.{read_entry}

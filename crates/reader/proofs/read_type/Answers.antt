@@ -1,4 +1,4 @@
-use Rattle.std.proofs.Common.{◌≡◌, ◌<◌, ◌≤◌, length, get_or, ap, ◌∙◌, arith, rules}
+use Rattle.std.proofs.Common.{◌<◌, ◌≤◌, length, get_or, ap, ◌∙◌, arith, rules}
 use Rattle.reader.specs.Reading.{read_type}
 use Rattle.plan.proofs.Fronts.{front1, rest_of, rest_length}
 use Rattle.reader.proofs.Slices.{type_there}

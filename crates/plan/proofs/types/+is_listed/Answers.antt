@@ -1,6 +1,5 @@
-use Rattle.std.proofs.Common.{◌≡◌, ◌≤◌, length, get_or, sym, ap, ◌∙◌, rules}
+use Rattle.std.proofs.Common.{◌≤◌, length, get_or, sym, ◌∙◌, rules}
 use Rattle.plan.specs.declared.Type.TheVariants.{Unit as UnitType}
-use Rattle.plan.specs.Written.{listed}
 use Rattle.plan.proofs.Fronts.{front1, rest_of}
 use Rattle.plan.proofs.Walks.{listed_empty, listed_next}
 use Rattle.plan.proofs.types.+is_listed.Goals as goal

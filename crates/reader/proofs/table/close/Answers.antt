@@ -1,7 +1,7 @@
-use Rattle.std.proofs.Common.{◌≡◌, suc, ◌+◌, ◌-◌, ◌<◌, ◌≤◌, eqb, length, set, Some, None, sym, refl, ap, ◌∙◌, subst, arith, rules, le-ltb}
+use Rattle.std.proofs.Common.{◌≡◌, ◌-◌, ◌≤◌, eqb, length, set, sym, refl, ap, ◌∙◌, subst, arith, le-ltb}
 use Rattle.std.proofs.lemmas.List.{length-set}
-use Rattle.plan.specs.Table.{row_at, Standing, Closed}
-use Rattle.plan.proofs.Ends.{Closing, closing_begins, turn, stop, finish, one_by_end, none_past, Told}
+use Rattle.plan.specs.Table.{row_at, Standing}
+use Rattle.plan.proofs.Ends.{Closing, closing_begins, turn, stop, finish, one_by_end, none_past}
 use Rattle.reader.proofs.table.close.Goals as goal
 
 pub loop-i-init : goal.loop-i-init

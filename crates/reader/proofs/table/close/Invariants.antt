@@ -1,5 +1,4 @@
-use Rattle.std.proofs.Common.{◌≡◌, ℕ, ◌-◌, ◌<◌, ◌≤◌, length}
-use Rattle.plan.specs.Table.{nodes_of, row_at, Standing}
+use Rattle.std.proofs.Common.{◌≡◌, ◌-◌, ◌≤◌, length}
 use Rattle.plan.proofs.Ends.{Closing}
 use Rattle.reader.proofs.table.close.Given as goal
 

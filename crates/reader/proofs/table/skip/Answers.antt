@@ -1,4 +1,4 @@
-use Rattle.std.proofs.Common.{◌≡◌, ◌+◌, ◌-◌, ◌<◌, ◌≤◌, sym, ap, subst, arith, rules}
+use Rattle.std.proofs.Common.{◌≡◌, ◌+◌, ◌-◌, ◌≤◌, subst, arith}
 use Rattle.plan.specs.Table.{row_at}
 use Rattle.plan.proofs.Ends.{Skips, skip_next, skip_past}
 use Rattle.reader.proofs.table.skip.Goals as goal

@@ -1,4 +1,4 @@
-use Rattle.std.proofs.Common.{arith, rules}
+use Rattle.std.proofs.Common.{arith}
 use Rattle.scales.proofs.RowLists.{zip_places}
 use Rattle.scales.proofs.rows.join_into.Goals as goal
 

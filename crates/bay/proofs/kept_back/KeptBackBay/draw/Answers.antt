@@ -1,4 +1,4 @@
-use Rattle.std.proofs.Common.{refl, ◌∙◌, rules}
+use Rattle.std.proofs.Common.{refl, ◌∙◌}
 use Rattle.bay.specs.declared.kept_back.KeptBack.{KeptBack}
 use Rattle.bay.proofs.Drawing.{unmoved_whole}
 use Rattle.bay.specs.Keeping.{kept_draw, kept_more, under}

@@ -1,5 +1,5 @@
 use Rattle.std.proofs.Common.{arith}
-use Rattle.bay.specs.Rolled.{Table, table_of}
+use Rattle.bay.specs.Rolled.{table_of}
 use Rattle.bay.proofs.roll.Roll.of.Goals as goal
 
 pub invariant_of-result : goal.invariant_of-result

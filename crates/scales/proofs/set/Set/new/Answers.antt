@@ -1,4 +1,4 @@
-use Rattle.std.proofs.Common.{◌≡◌, ℕ, ◌+◌, length, get_or, refl, subst, arith}
+use Rattle.std.proofs.Common.{ℕ, ◌+◌, get_or, refl, subst, arith}
 use lib.Bits.{bit_or}
 use Rattle.scales.proofs.SetCode.{Marked, marked_none, marked_more, marked_set, marked_nothing, one_shl}
 use Rattle.scales.proofs.set.Set.new.Goals as goal

@@ -1,4 +1,4 @@
-use Rattle.std.proofs.Common.{◌≡◌, ℕ, ◌+◌, ◌<◌, sym, ◌∙◌, subst, arith}
+use Rattle.std.proofs.Common.{ℕ, ◌+◌, sym, ◌∙◌, subst, arith}
 use Rattle.scales.proofs.SetCode.{Gathered, Repeated, counted, counted_none, counted_more, gathered_none, gathered_skip, gathered_take, gathered_product}
 use Rattle.scales.proofs.set.ops.product_of_masks.Goals as goal
 use Rattle.scales.proofs.set.ops.product_of_masks.Goals.{then-has, else-has}

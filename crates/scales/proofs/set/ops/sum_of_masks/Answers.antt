@@ -1,4 +1,4 @@
-use Rattle.std.proofs.Common.{◌≡◌, ℕ, ◌+◌, ◌<◌, sym, ◌∙◌, subst, arith}
+use Rattle.std.proofs.Common.{ℕ, ◌+◌, sym, ◌∙◌, subst, arith}
 use Rattle.scales.proofs.SetCode.{Gathered, Holds, Raised, gathered_none, gathered_skip, gathered_take, raised_none, raised_more, gathered_sum}
 use Rattle.scales.proofs.set.ops.sum_of_masks.Goals as goal
 use Rattle.scales.proofs.set.ops.sum_of_masks.Goals.{then-has, else-has}
