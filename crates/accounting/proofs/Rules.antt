@@ -1,5 +1,5 @@
 -- The usage of each form of evaluation, from that of its kids. Assumes nothing.
-use Rattle.std.proofs.Common.{◌≡◌, ℕ, suc, ◌+◌, ◌<◌, ◌≤◌, Bool, true, false, cond, eqb, List, [], ◌∷◌, ◌++◌, length, sym, refl, ap, ◌∙◌, subst, ap₂, le_trans, le_refl, arith}
+use Rattle.std.proofs.Common.{◌≡◌, ℕ, suc, ◌<◌, ◌≤◌, Bool, true, false, cond, eqb, List, [], ◌∷◌, ◌++◌, length, sym, refl, ap, ◌∙◌, subst, ap₂, le_trans, le_refl, arith}
 use Rattle.std.proofs.lemmas.Bool.{eqb-false}
 use Rattle.scales.specs.Laws.{Ops, Laws}
 use Rattle.evaluation.specs.Flight.{Entry, made, lookup, State, Out, ended, value, Value, v_unit, v_number, v_pair, v_left, v_right, Comp, Scope, at, a_number, a_pair, an_either, Limits, need, and_then, tick, note, bump, begin, make, bound, kept, either_of, numbers}

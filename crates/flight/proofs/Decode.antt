@@ -1,5 +1,5 @@
 -- What the tables hold, place by place. Assumes nothing.
-use Rattle.std.proofs.Common.{◌≡◌, ℕ, zero, suc, ◌+◌, ◌-◌, ◌<◌, ◌≤◌, min, Bool, true, false, cond, T, eqb, List, [], ◌∷◌, ◌++◌, length, get_or, take, sym, refl, ap, ◌∙◌, subst, ap₂, add-zero, zero-add, add-one, arith, eqb→eq, length-take}
+use Rattle.std.proofs.Common.{◌≡◌, ℕ, zero, suc, ◌+◌, ◌-◌, ◌<◌, ◌≤◌, min, Bool, true, false, cond, T, eqb, List, [], ◌∷◌, ◌++◌, length, get_or, take, sym, refl, ap, ◌∙◌, subst, ap₂, zero-add, add-one, arith, eqb→eq, length-take}
 use lib.Dec.{eqb_refl}
 use Rattle.evaluation.specs.Flight.{at}
 use Rattle.evaluation.specs.Flight as byname
@@ -14,7 +14,7 @@ use Rattle.flight.specs.declared.machine.What.{What}
 use Rattle.flight.specs.declared.machine.What.TheVariants.{Thunk, Kept, Store}
 use Rattle.flight.specs.declared.machine.Binding.{Binding}
 use Rattle.plan.specs.declared.Row.{Row}
-use Rattle.flight.proofs.Grow.{grow_snoc, grow_length, stable, grow_old, grow_new, grow_at, grow_front, grow_ext}
+use Rattle.flight.proofs.Grow.{grow_length, stable, grow_old, grow_new, grow_at, grow_front, grow_ext}
 
 pub eqb_same : (n : ℕ) → eqb n n ≡ true
 eqb_same n = go (eqb n n) (eqb_refl n)

@@ -1,10 +1,10 @@
 -- The walk along the scope. Assumes nothing.
-use Rattle.std.proofs.Common.{◌≡◌, ℕ, zero, suc, ◌+◌, ◌-◌, ◌<◌, ◌≤◌, List, [], ◌∷◌, ◌++◌, length, get_or, sym, refl, ap, ◌∙◌, subst, ap₂, arith}
+use Rattle.std.proofs.Common.{◌≡◌, ℕ, zero, suc, ◌-◌, ◌<◌, ◌≤◌, List, length, get_or, sym, ap, ◌∙◌, subst, arith}
 use Rattle.evaluation.specs.Flight.{at}
 use Rattle.evaluation.specs.Flight as byname
 use Rattle.flight.specs.Nodes.{Runner}
 use Rattle.flight.specs.Tables.{Tables, no_binding, size_at}
-use Rattle.flight.specs.Means.{value_at, lookup_of, scopes, scope_at}
+use Rattle.flight.specs.Means.{scope_at}
 use Rattle.flight.specs.Sound.{Tabled, Finds}
 use Rattle.flight.specs.declared.machine.Binding.{Binding}
 use Rattle.flight.proofs.Decode.{found_here, found_further, size_pos}

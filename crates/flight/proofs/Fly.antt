@@ -1,38 +1,18 @@
 -- The loop of a call. Assumes nothing.
-use Rattle.std.proofs.Common.{◌≡◌, ℕ, zero, suc, ◌+◌, ◌-◌, ◌*◌, ◌<◌, ◌≤◌, min, Bool, true, false, cond, not, T, eqb, ltb, List, [], ◌∷◌, ◌++◌, map, reverse, length, get_or, sym, refl, ap, ◌∙◌, subst, ap₂, add-one, arith, eqb→eq, length-append, ltb-false, ltb-true}
-use mathlib.Core.Option.{Option, some, none}
-use lib.ListN.{get_or-append}
-use lib.Seq.{get_or-append_seam}
+use Rattle.std.proofs.Common.{◌≡◌, ℕ, ◌+◌, ◌-◌, ◌≤◌, true, false, T, List, [], ◌∷◌, reverse, length, sym, refl, ap, ◌∙◌, subst, arith, ltb-false, ltb-true}
 use Rattle.evaluation.specs.Flight.{at}
 use Rattle.evaluation.specs.Flight as byname
-use Rattle.flight.specs.Nodes.{Runner, Runs, kind_at, kid2, kid3, end_at, after, first, second, both, node_does, no_leg, bind_kids}
-use Rattle.flight.specs.Tables.{Tables, no_binding, no_frame, size_at, new_binding, opened, noted, valued, pushed, ticked}
-use Rattle.flight.specs.Means.{value_at, part_of, lookup_of, scopes, scope_at, resumed, frame_means, unwind, entry_of, state_of, control_means, means, ending_of}
-use Rattle.flight.specs.Grow.{grow}
-use Rattle.flight.specs.Sound.{Under, Args, Laid, LaidNode, WhatOk, BindingOk, PartOk, PhaseOk, FrameOk, Sound, ControlOk, Ready, left, rank, Poised, Act, Leads, bind_act, node_act, frame_act, Steps, May, starts, Tabled, Finds, name_act, Binds}
-use Rattle.plan.specs.declared.Node.{Node}
-use Rattle.plan.specs.declared.Node.TheVariants.{Unit as k_unit, Number, Name, Let, Take, Pair, Split, Left, Right, Case, Call, Add, Less}
+use Rattle.flight.specs.Nodes.{Runner}
+use Rattle.flight.specs.Tables.{Tables}
+use Rattle.flight.specs.Means.{value_at, scope_at, unwind, state_of, means, ending_of}
+use Rattle.flight.specs.Sound.{Ready, Steps, May, starts}
 use Rattle.plan.specs.declared.Leg.{Leg}
-use Rattle.flight.specs.declared.machine.Part.{Part}
-use Rattle.flight.specs.declared.machine.Part.TheVariants.{Nothing, Num, Both, InLeft, InRight}
-use Rattle.flight.specs.declared.machine.What.{What}
-use Rattle.flight.specs.declared.machine.What.TheVariants.{Thunk, Kept, Store}
-use Rattle.flight.specs.declared.machine.Binding.{Binding}
-use Rattle.flight.specs.declared.machine.Phase.{Phase}
-use Rattle.flight.specs.declared.machine.Phase.TheVariants.{First, Second}
 use Rattle.flight.specs.declared.machine.Frame.{Frame}
-use Rattle.flight.specs.declared.machine.Ending.TheVariants.{Long, Deep, Full, Empty}
-use Rattle.flight.specs.declared.machine.Entry.{Entry}
-use Rattle.flight.specs.Tables.{Made, Lookup}
 use Rattle.flight.specs.declared.machine.Control.{Control}
 use Rattle.flight.specs.declared.machine.Control.TheVariants.{Eval, Return, Draw, Over}
 use Rattle.plan.specs.declared.Row.{Row}
-use Rattle.flight.proofs.Decode.{value_old, value_new, value_here, scope_old, scope_new, scope_none, scopes_valued, scope_size, found_here, found_further, size_pos, eqb_same}
-use Rattle.flight.proofs.Keeps.{size_more, size_low, sound_opened, sound_noted, sound_valued, sound_pushed, sound_ticked, sound_popped}
-use Rattle.flight.proofs.Gates.{begin_room, begin_long, begin_deep, begin_air, room_yes, room_no, make_room, make_full, log_length, state_ticked, state_opened, state_noted, unwind_ended, reverse_push, unwind_opened, unwind_valued, scopes_same}
-use Rattle.flight.specs.Calling.{Given}
-use Rattle.flight.proofs.Leads.{leads_as, leads_at, give_leads, value_leads, wait_leads, full_leads, bind_leads}
-use Rattle.flight.specs.Fly.{goes, shown, told, AtRest, Aloft, Flies, EndedAt, Flying, Moves}
+use Rattle.flight.proofs.Gates.{begin_air, unwind_ended}
+use Rattle.flight.specs.Fly.{goes, shown, AtRest, Flies, EndedAt, Flying, Moves}
 
 true_false : true ≡ false → ⊥
 true_false e = subst T e tt

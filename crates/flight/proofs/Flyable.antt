@@ -1,7 +1,7 @@
 -- A read plan with types is laid and spelled as the machine needs it. Assumes nothing.
-use Rattle.std.proofs.Common.{◌≡◌, ℕ, zero, suc, ◌+◌, ◌-◌, ◌*◌, ◌<◌, ◌≤◌, Bool, true, false, cond, eqb, ltb, List, [], ◌∷◌, ◌++◌, map, reverse, length, get_or, drop, vec_items, sym, refl, ap, ◌∙◌, subst, ap₂, add-one, arith, length-append, ltb-false, ltb-true, le-ltb, lt-ltb, eqb-true}
+use Rattle.std.proofs.Common.{◌≡◌, ℕ, zero, suc, ◌+◌, ◌-◌, ◌*◌, ◌<◌, ◌≤◌, Bool, true, false, cond, eqb, ltb, List, [], ◌∷◌, ◌++◌, reverse, length, get_or, drop, vec_items, sym, refl, ap, ◌∙◌, subst, arith, length-append, ltb-false, ltb-true, le-ltb, lt-ltb, eqb-true}
 use mathlib.Core.List.{reverse_aux}
-use Rattle.std.proofs.lemmas.List.{get_or_append_left, get_or-append-add, get_or-drop, drop_more}
+use Rattle.std.proofs.lemmas.List.{get_or_append_left, get_or-append-add, get_or-drop}
 use Rattle.plan.specs.declared.TypeId.{TypeId}
 use Rattle.plan.specs.declared.Node.{Node}
 use Rattle.plan.specs.declared.Row.{Row}
@@ -13,7 +13,7 @@ use Rattle.plan.specs.Table as table
 use Rattle.plan.specs.Table.{row_at, term_at, node_size, InOrder}
 use Rattle.plan.specs.Plans.{leg_in, legs_in, params_of, tree}
 use Rattle.plan.specs.Plans as replies
-use Rattle.plan.specs.Written.{Run, with_leg, with_node, binders_in, NodeLaid, LegLaid, Before, none_before, WellLaid}
+use Rattle.plan.specs.Written.{Run, with_leg, with_node, binders_in, LegLaid, Before, none_before}
 use Rattle.plan.proofs.Ends.{some_nodes}
 use Rattle.typer.specs.Typing.{World, world_of, scope_on, LegTyped, LegsTyped, PlanTyped}
 use Rattle.typer.specs.Levels.{levels, leg_levels}
@@ -22,7 +22,7 @@ use Rattle.flight.specs.Sound.{Under, Laid, LaidNode}
 use Rattle.flight.specs.Spelled.{below, below_from, from_leg, Spells, Spelled, Main}
 use Rattle.flight.proofs.Levels.{levels_length}
 use Rattle.flight.proofs.Decode.{eqb_same}
-use Rattle.flight.proofs.Placed.{Lower, Own, Along, Placed, walked, good}
+use Rattle.flight.proofs.Placed.{Lower, Along, Placed, walked, good}
 use Rattle.flight.proofs.Owns.{Fit, fits, owns, two_at_most}
 
 scope_length : (Γ ys : List TypeId) → length (scope_on Γ ys) ≡ length Γ + length ys

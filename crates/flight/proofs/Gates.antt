@@ -1,25 +1,23 @@
 -- The limits, where a test on them is known, and the stack under changes. Assumes nothing.
-use Rattle.std.proofs.Common.{◌≡◌, ℕ, zero, suc, ◌+◌, ◌-◌, ◌<◌, ◌≤◌, min, Bool, true, false, cond, T, ltb, leb, List, [], ◌∷◌, ◌++◌, map, reverse, length, get_or, sym, refl, ap, ◌∙◌, subst, ap₂, add-one, arith, le→leb, leb→le, length-append, le-ltb, lt-ltb}
+use Rattle.std.proofs.Common.{◌≡◌, ℕ, suc, ◌+◌, ◌<◌, ◌≤◌, Bool, true, false, cond, T, ltb, leb, List, [], ◌∷◌, ◌++◌, map, reverse, length, get_or, sym, refl, ap, ◌∙◌, subst, ap₂, add-one, arith, le→leb, leb→le, length-append, le-ltb, lt-ltb}
 use mathlib.Core.List.{map-append, reverse-append}
 use mathlib.Core.Option.{Option, some, none}
-use lib.ListN.{length-map, get_or-append}
-use lib.Seq.{get_or-append_seam}
+use lib.ListN.{length-map}
 use Rattle.evaluation.specs.Flight as byname
-use Rattle.flight.specs.Nodes.{Runner, kind_at, after, both}
-use Rattle.flight.specs.Tables.{Tables, no_binding, no_frame, size_at, new_binding, opened, noted, valued, pushed, ticked}
-use Rattle.flight.specs.Means.{value_at, lookup_of, scopes, scope_at, resumed, frame_means, unwind, entry_of, state_of}
-use Rattle.flight.specs.Sound.{Under, WhatOk, BindingOk, PartOk, PhaseOk, FrameOk, Sound}
+use Rattle.flight.specs.Nodes.{Runner, kind_at, both}
+use Rattle.flight.specs.Tables.{Tables, no_binding, no_frame, new_binding, opened, noted, ticked}
+use Rattle.flight.specs.Means.{value_at, scopes, scope_at, resumed, frame_means, unwind, entry_of, state_of}
+use Rattle.flight.specs.Sound.{WhatOk, PhaseOk, Sound}
 use Rattle.flight.specs.declared.machine.Part.{Part}
 use Rattle.flight.specs.declared.machine.What.{What}
-use Rattle.flight.specs.declared.machine.What.TheVariants.{Thunk, Kept, Store}
+use Rattle.flight.specs.declared.machine.What.TheVariants.{Kept}
 use Rattle.flight.specs.declared.machine.Binding.{Binding}
 use Rattle.flight.specs.declared.machine.Phase.{Phase}
 use Rattle.flight.specs.declared.machine.Phase.TheVariants.{First, Second}
 use Rattle.flight.specs.declared.machine.Frame.{Frame}
-use Rattle.flight.specs.declared.machine.Entry.{Entry}
 use Rattle.flight.specs.Tables.{Made, Lookup}
 use Rattle.plan.specs.declared.Row.{Row}
-use Rattle.flight.proofs.Decode.{value_old, scope_old, scope_new, scopes_valued}
+use Rattle.flight.proofs.Decode.{value_old, scope_old, scopes_valued}
 
 pub leb_no : (m n : ℕ) → n < m → leb m n ≡ false
 leb_no m n h = go (leb m n) refl

@@ -1,5 +1,5 @@
 -- From the machine's own words to those of the flight. Assumes nothing.
-use Rattle.std.proofs.Common.{◌≡◌, ℕ, ◌+◌, ◌≤◌, List, reverse, length, sym, refl, ap, ◌∙◌, subst, arith}
+use Rattle.std.proofs.Common.{◌≡◌, ℕ, ◌+◌, ◌≤◌, List, length, sym, refl, ap, ◌∙◌, arith}
 use Rattle.plan.specs.Trees as plan
 use Rattle.plan.specs.Plans.{tree, params_of}
 use Rattle.evaluation.specs.Laws.{stores_in, stores_of}

@@ -1,9 +1,9 @@
 -- Each change of the tables keeps them sound. Assumes nothing.
-use Rattle.std.proofs.Common.{◌≡◌, ℕ, zero, suc, ◌+◌, ◌-◌, ◌<◌, ◌≤◌, min, ◌⊎◌, List, [], ◌∷◌, ◌++◌, length, get_or, take, sym, refl, ap, ◌∙◌, subst, inl, inr, eq-or-lt_of_le, arith, length-append, length-take, get_or-take}
+use Rattle.std.proofs.Common.{◌≡◌, ℕ, zero, suc, ◌+◌, ◌<◌, ◌≤◌, ◌⊎◌, List, [], ◌∷◌, ◌++◌, length, get_or, sym, refl, ap, ◌∙◌, subst, inl, inr, eq-or-lt_of_le, arith, length-append}
 use lib.ListN.{get_or-append}
 use lib.Seq.{get_or-append_seam}
 use Rattle.flight.specs.Tables.{Tables, no_binding, no_frame, size_at, new_binding, opened, noted, valued, pushed, ticked}
-use Rattle.flight.specs.Sound.{Under, WhatOk, BindingOk, PartOk, PhaseOk, FrameOk, Sound, IsNothing, IsLeft, IsRight}
+use Rattle.flight.specs.Sound.{WhatOk, BindingOk, PartOk, PhaseOk, FrameOk, Sound, IsNothing, IsLeft, IsRight}
 use Rattle.flight.specs.declared.machine.Part.{Part}
 use Rattle.flight.specs.declared.machine.Part.TheVariants.{Nothing, Num, Both, InLeft, InRight}
 use Rattle.flight.specs.declared.machine.What.{What}

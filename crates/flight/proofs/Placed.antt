@@ -1,5 +1,5 @@
 -- The nodes of a leg: each with its kids, the levels in scope and the legs below. Assumes nothing.
-use Rattle.std.proofs.Common.{◌≡◌, ℕ, zero, suc, ◌+◌, ◌<◌, ◌≤◌, Bool, true, false, cond, ltb, List, [], ◌∷◌, ◌++◌, length, get_or, sym, refl, ap, ◌∙◌, subst, ap₂, add-one, arith, length-append, ltb-false, ltb-true}
+use Rattle.std.proofs.Common.{◌≡◌, ℕ, zero, suc, ◌+◌, ◌<◌, ◌≤◌, Bool, true, false, ltb, List, [], ◌∷◌, ◌++◌, length, get_or, sym, refl, ap, ◌∙◌, subst, ap₂, add-one, arith, length-append, ltb-false, ltb-true}
 use Rattle.std.proofs.lemmas.List.{get_or_append_left, get_or-append-add}
 use Rattle.plan.specs.declared.Node.{Node}
 use Rattle.plan.specs.declared.Node.TheVariants.{Unit as k_unit, Number, Name, Let, Take, Pair, Split, Left, Right, Case, Call, Add, Less}
@@ -15,9 +15,9 @@ use Rattle.plan.proofs.Stacks.{flat_all}
 use Rattle.plan.proofs.Kids.{flat_head}
 use Rattle.plan.proofs.Ends.{some_nodes}
 use Rattle.typer.specs.Levels.{levels}
-use Rattle.typer.specs.Depths.{inner_depth, kid_depth, kid_levels}
+use Rattle.typer.specs.Depths.{kid_depth, kid_levels}
 use Rattle.flight.proofs.Levels.{levels_view, levels_length}
-use Rattle.flight.specs.Nodes.{no_leg, kind_at, end_at, kid2, kid3}
+use Rattle.flight.specs.Nodes.{no_leg, kind_at, end_at}
 use Rattle.flight.specs.Sound.{Under, Args, LaidNode}
 use Rattle.flight.specs.Spelled.{below, trees, SameLeg, from_leg, Spells}
 

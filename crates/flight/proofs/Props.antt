@@ -1,10 +1,10 @@
 -- What holds between steps has one proof at most. Assumes nothing.
-use Rattle.std.proofs.Common.{◌≡◌, ℕ, zero, suc, ◌+◌, ◌-◌, ◌<◌, ◌≤◌, List, [], ◌∷◌, ◌++◌, length, get_or, sym, refl, ap, ◌∙◌, subst}
+use Rattle.std.proofs.Common.{ℕ, zero, suc, List, length, get_or, refl, subst}
 use mathlib.Core.HLevel.{Π_prop, →_prop, ×_prop, ⊥_prop, Unit-prop}
 use mathlib.Core.Logic.{∥∥₁_elim}
 use native.Mathlib.Nat.{ℕ_set}
 use native.Mathlib.Bridge.{le_prop}
-use Rattle.flight.specs.Nodes.{kind_at, end_at, kid2, kid3, no_leg, level_of}
+use Rattle.flight.specs.Nodes.{kind_at, end_at, level_of}
 use Rattle.flight.specs.Tables.{Tables, size_at, no_binding, no_frame}
 use Rattle.flight.specs.Sound.{Under, Args, Laid, LaidNode, WhatOk, BindingOk, PartOk, PhaseOk, FrameOk, Sound, ControlOk, Ready, Fine, IsNothing, IsLeft, IsRight}
 use Rattle.plan.specs.declared.Node.{Node}

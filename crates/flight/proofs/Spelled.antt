@@ -1,30 +1,27 @@
 -- A flat plan that spells trees does what the trees do. Assumes nothing.
-use Rattle.std.proofs.Common.{◌≡◌, ℕ, zero, suc, ◌+◌, ◌<◌, ◌≤◌, Bool, true, false, cond, eqb, List, [], ◌∷◌, ◌++◌, map, reverse, length, get_or, take, sym, refl, ap, ◌∙◌, subst, ap₂, add-one, arith, length-append}
+use Rattle.std.proofs.Common.{◌≡◌, ℕ, zero, suc, ◌+◌, ◌<◌, ◌≤◌, Bool, true, false, cond, eqb, List, [], ◌∷◌, ◌++◌, reverse, length, get_or, sym, refl, ap, ◌∙◌, subst, ap₂, add-one, arith, length-append}
 use mathlib.Core.List.{map-append}
 use lib.Seq.{get_or-append_seam}
 use Rattle.plan.specs.Trees as plan
 use Rattle.evaluation.specs.Flight as byname
 use Rattle.flight.specs.Nodes.{Runner, Runs, no_leg, kind_at, end_at, kid2, kid3, node_does, bind_kids}
 use Rattle.flight.specs.Tables.{Tables, opened, new_binding, size_at, no_binding}
-use Rattle.flight.specs.Means.{scope_at, entry_of, state_of, means, value_at}
-use Rattle.flight.specs.Sound.{Under, Laid, Sound, Ready, WhatOk, PartOk}
-use Rattle.flight.specs.Fly.{Aloft, shown, Flies}
-use Rattle.flight.specs.Spelled.{trees, below, SameLeg, from_leg, Spells, Spelled, runner, Main, blank, Storing, flown, Begun}
+use Rattle.flight.specs.Means.{scope_at, entry_of}
+use Rattle.flight.specs.Sound.{Ready, PartOk}
+use Rattle.flight.specs.Spelled.{trees, below, SameLeg, from_leg, Spells, Spelled, runner, Main, blank, Storing, Begun}
 use Rattle.plan.specs.Table.{term_at}
 use Rattle.plan.specs.Plans.{leg_in, params_of}
 use Rattle.plan.specs.declared.Node.{Node}
 use Rattle.plan.specs.declared.Node.TheVariants.{Unit as k_unit, Number, Name, Let, Take, Pair, Split, Left, Right, Case, Call, Add, Less}
 use Rattle.plan.specs.declared.Row.{Row}
 use Rattle.plan.specs.declared.Leg.{Leg}
-use Rattle.flight.specs.declared.machine.Frame.{Frame}
 use Rattle.flight.specs.declared.machine.Binding.{Binding}
 use Rattle.flight.specs.declared.machine.What.TheVariants.{Store}
 use Rattle.flight.specs.Tables.{Made}
-use Rattle.flight.specs.declared.machine.Control.{Control}
 use Rattle.flight.specs.declared.machine.Control.TheVariants.{Eval}
 use Rattle.flight.specs.Means.{unwind}
 use Rattle.flight.proofs.Keeps.{sound_opened}
-use Rattle.flight.proofs.Decode.{scope_none, scope_new}
+use Rattle.flight.proofs.Decode.{scope_new}
 
 legs_length : (L : byname.Limits) (ls : List plan.Leg) → length (byname.meanings L ls) ≡ length ls
 legs_length L [] = refl

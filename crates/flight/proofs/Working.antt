@@ -1,15 +1,12 @@
 -- The nodes, by kind. Assumes nothing.
-use Rattle.std.proofs.Common.{◌≡◌, ℕ, zero, suc, ◌+◌, ◌-◌, ◌*◌, ◌<◌, ◌≤◌, min, Bool, true, false, cond, List, [], ◌∷◌, ◌++◌, map, reverse, length, get_or, sym, refl, ap, ◌∙◌, subst, ap₂, add-one, arith, length-append}
-use mathlib.Core.Option.{Option, some, none}
-use lib.ListN.{get_or-append}
-use lib.Seq.{get_or-append_seam}
+use Rattle.std.proofs.Common.{◌≡◌, ℕ, suc, ◌+◌, List, [], length, get_or, sym, refl, ap, ◌∙◌, subst, arith}
 use Rattle.evaluation.specs.Flight.{at}
 use Rattle.evaluation.specs.Flight as byname
-use Rattle.flight.specs.Nodes.{Runner, Runs, kind_at, kid2, kid3, end_at, after, first, second, both, node_does, no_leg, bind_kids}
-use Rattle.flight.specs.Tables.{Tables, no_binding, no_frame, size_at, new_binding, opened, noted, valued, pushed, ticked}
-use Rattle.flight.specs.Means.{value_at, part_of, lookup_of, scopes, scope_at, resumed, frame_means, unwind, entry_of, state_of, control_means, means}
+use Rattle.flight.specs.Nodes.{Runner, kind_at, kid2, first, node_does, no_leg}
+use Rattle.flight.specs.Tables.{Tables, valued}
+use Rattle.flight.specs.Means.{part_of, scope_at}
 use Rattle.flight.specs.Grow.{grow}
-use Rattle.flight.specs.Sound.{Under, Args, Laid, LaidNode, WhatOk, BindingOk, PartOk, PhaseOk, FrameOk, Sound, ControlOk, Ready, left, rank, Poised, Act, Leads, bind_act, node_act, frame_act, Steps, May, starts, Tabled, Finds, name_act, Binds}
+use Rattle.flight.specs.Sound.{Under, LaidNode, Poised, Leads, node_act, Binds}
 use Rattle.plan.specs.declared.Node.{Node}
 use Rattle.plan.specs.declared.Level.{Level}
 use Rattle.plan.specs.declared.Binder.{Binder}
@@ -17,24 +14,17 @@ use Rattle.plan.specs.declared.LegId.{LegId}
 use Rattle.plan.specs.declared.Node.TheVariants.{Unit as k_unit, Number, Name, Let, Take, Pair, Split, Left, Right, Case, Call, Add, Less}
 use Rattle.plan.specs.declared.Leg.{Leg}
 use Rattle.flight.specs.declared.machine.Part.{Part}
-use Rattle.flight.specs.declared.machine.Part.TheVariants.{Nothing, Num, Both, InLeft, InRight}
-use Rattle.flight.specs.declared.machine.What.{What}
-use Rattle.flight.specs.declared.machine.What.TheVariants.{Thunk, Kept, Store}
+use Rattle.flight.specs.declared.machine.Part.TheVariants.{Nothing, Num}
+use Rattle.flight.specs.declared.machine.What.TheVariants.{Thunk}
 use Rattle.flight.specs.declared.machine.Binding.{Binding}
-use Rattle.flight.specs.declared.machine.Phase.{Phase}
-use Rattle.flight.specs.declared.machine.Phase.TheVariants.{First, Second}
-use Rattle.flight.specs.declared.machine.Frame.{Frame}
-use Rattle.flight.specs.declared.machine.Ending.TheVariants.{Long, Deep, Full, Empty}
-use Rattle.flight.specs.declared.machine.Entry.{Entry}
-use Rattle.flight.specs.Tables.{Made, Lookup}
+use Rattle.flight.specs.declared.machine.Phase.TheVariants.{First}
 use Rattle.flight.specs.declared.machine.Control.{Control}
-use Rattle.flight.specs.declared.machine.Control.TheVariants.{Eval, Return, Draw, Over}
+use Rattle.flight.specs.declared.machine.Control.TheVariants.{Return}
 use Rattle.plan.specs.declared.Row.{Row}
-use Rattle.flight.proofs.Decode.{value_old, value_new, value_here, scope_old, scope_new, scope_none, scopes_valued, scope_size, found_here, found_further, size_pos}
-use Rattle.flight.proofs.Keeps.{nothing_is, left_part, right_part, size_more, size_low, sound_opened, sound_noted, sound_valued, sound_pushed, sound_ticked, sound_popped}
-use Rattle.flight.proofs.Gates.{begin_room, begin_long, begin_deep, begin_air, room_yes, room_no, make_room, make_full, log_length, state_ticked, state_opened, state_noted, unwind_ended, reverse_push, unwind_opened, unwind_valued, scopes_same}
-use Rattle.flight.specs.Calling.{rest_act, call_act, Calls, Calling, wait_act, Waits, Given}
-use Rattle.flight.proofs.Leads.{leads_as, leads_at, give_leads, value_leads, wait_leads, full_leads, bind_leads}
+use Rattle.flight.proofs.Decode.{value_here}
+use Rattle.flight.proofs.Keeps.{nothing_is}
+use Rattle.flight.specs.Calling.{Calls, wait_act, Waits}
+use Rattle.flight.proofs.Leads.{leads_as, give_leads, value_leads}
 
 abbrev pub Strict : Node → Type 0
 Strict k_unit = ⊥

@@ -1,17 +1,16 @@
 -- The bindings of a call's arguments, one by one; and what waits. Assumes nothing.
-use Rattle.std.specs.Prelude.{◌≡◌, ℕ, zero, suc, ◌+◌, ◌-◌, ◌*◌, ◌<◌, ◌≤◌, List, [], ◌∷◌, ◌++◌, reverse, length, get_or}
+use Rattle.std.specs.Prelude.{◌≡◌, ℕ, suc, ◌+◌, ◌-◌, ◌<◌, ◌≤◌, List, [], ◌∷◌, reverse, length}
 use Rattle.evaluation.specs.Flight as byname
 use Rattle.plan.specs.Trees.{the_binder}
 use Rattle.flight.specs.Nodes.{Runner, bind_kids, kind_at, after, both}
 use Rattle.flight.specs.Tables.{Tables, size_at}
 use Rattle.flight.specs.Means.{unwind, state_of, value_at, scope_at, resumed}
-use Rattle.flight.specs.Sound.{Under, Args, Poised, Act, PhaseOk, LaidNode}
+use Rattle.flight.specs.Sound.{Under, Args, Poised, Act, PhaseOk}
 use Rattle.plan.specs.declared.Node.{Node}
 use Rattle.plan.specs.declared.Node.TheVariants.{Case}
 use Rattle.plan.specs.declared.Row.{Row}
 use Rattle.plan.specs.declared.Leg.{Leg}
 use Rattle.flight.specs.declared.machine.Phase.{Phase}
-use Rattle.flight.specs.declared.machine.Frame.{Frame}
 
 -- what is left of a call: c arguments from the kid at x on, with the binder k on, in front of the scope at i
 abbrev pub rest_act : List Row → Tables → Leg → ℕ → ℕ → ℕ → ℕ → ℕ → ℕ → Act

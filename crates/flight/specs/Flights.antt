@@ -8,7 +8,6 @@ use Rattle.typer.specs.Accepted.{typed}
 use Rattle.evaluation.specs.Flight as byname
 use Rattle.evaluation.specs.Flight.{Readings, Out, ended, value, in_air, long, deep, full, empty, flight, as_number}
 use Rattle.evaluation.specs.Laws.{store_lookups}
-use Rattle.flight.specs.declared.machine.Ending.{Ending}
 use Rattle.flight.specs.declared.machine.Ending.TheVariants.{Long, Deep, Full, Empty}
 use Rattle.flight.specs.declared.machine.Outcome.{Outcome}
 use Rattle.flight.specs.declared.machine.Outcome.TheVariants.{InAir, Ended, Done}

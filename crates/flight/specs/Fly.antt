@@ -1,5 +1,5 @@
 -- Flying in several calls. Assumes nothing.
-use Rattle.std.specs.Prelude.{◌≡◌, ℕ, ◌+◌, ◌-◌, ◌<◌, ◌≤◌, Bool, true, false, List, [], ◌∷◌, length, nat_lt}
+use Rattle.std.specs.Prelude.{◌≡◌, ℕ, ◌+◌, ◌-◌, ◌<◌, ◌≤◌, Bool, true, false, List, length, nat_lt}
 use Rattle.evaluation.specs.Flight as byname
 use Rattle.flight.specs.Nodes.{Runner, Runs}
 use Rattle.flight.specs.Tables.{Tables}
@@ -7,7 +7,6 @@ use Rattle.flight.specs.Means.{means, value_at, state_of, ending_of}
 use Rattle.flight.specs.Sound.{Ready}
 use Rattle.plan.specs.declared.Row.{Row}
 use Rattle.plan.specs.declared.Leg.{Leg}
-use Rattle.flight.specs.declared.machine.Ending.{Ending}
 use Rattle.flight.specs.declared.machine.Control.{Control}
 use Rattle.flight.specs.declared.machine.Control.TheVariants.{Eval, Return, Draw, Over}
 use Rattle.flight.specs.declared.machine.Outcome.{Outcome}

@@ -1,5 +1,5 @@
 -- A typed plan and the machine that flies it. Assumes nothing.
-use Rattle.std.specs.Prelude.{ℕ, ◌-◌, List, length, vec_items, slice_index_or}
+use Rattle.std.specs.Prelude.{◌-◌, List, length, vec_items, slice_index_or}
 use Rattle.plan.specs.declared.Row.{Row}
 use Rattle.plan.specs.declared.Leg.{Leg}
 use Rattle.typer.specs.declared.TypedPlan.{TypedPlan}

@@ -1,5 +1,5 @@
 -- What a state of the machine still has to give. Assumes nothing.
-use Rattle.std.specs.Prelude.{◌≡◌, ℕ, zero, suc, ◌+◌, ◌-◌, ◌<◌, ◌≤◌, List, [], ◌∷◌, ◌++◌, map, reverse, length, slice_index_or}
+use Rattle.std.specs.Prelude.{ℕ, ◌-◌, List, [], ◌∷◌, map, reverse, length, slice_index_or}
 use Rattle.evaluation.specs.Flight as byname
 use Rattle.flight.specs.Grow.{grow}
 use Rattle.flight.specs.Nodes.{Runner, kind_at, both, after}

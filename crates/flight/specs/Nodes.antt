@@ -1,5 +1,5 @@
 -- What the nodes of a flat plan do. Assumes nothing.
-use Rattle.std.specs.Prelude.{◌≡◌, ℕ, zero, suc, ◌+◌, ◌<◌, ◌≤◌, List, [], ◌∷◌, length, slice_index, slice_index_or}
+use Rattle.std.specs.Prelude.{◌≡◌, ℕ, zero, suc, ◌+◌, ◌<◌, List, [], ◌∷◌, length, slice_index, slice_index_or}
 use Rattle.evaluation.specs.Flight.{at, house, Value, v_unit, v_number, v_pair, v_left, v_right, State, Out, value, Comp, Scope, Limits, and_then, make, bound, kept, begin, either_of, first_of, second_of, sum_of, less_of}
 use Rattle.plan.specs.declared.Node.{Node}
 use Rattle.plan.specs.declared.Node.TheVariants.{Unit, Number, Name, Let, Take, Pair, Split, Left, Right, Case, Call, Add, Less}

@@ -1,22 +1,20 @@
 -- A flat plan that spells its trees; and a flight that has just begun. Assumes nothing.
-use Rattle.std.specs.Prelude.{◌≡◌, ℕ, zero, suc, ◌+◌, ◌<◌, ◌≤◌, cond, List, [], ◌∷◌, ◌++◌, map, length, get_or, ◌==◌, nat_lt, slice_index_or}
+use Rattle.std.specs.Prelude.{◌≡◌, ℕ, zero, suc, ◌+◌, ◌<◌, ◌≤◌, cond, List, [], ◌∷◌, map, length, get_or, ◌==◌, nat_lt, slice_index_or}
 use Rattle.plan.specs.Trees as plan
 use Rattle.plan.specs.Table.{term_at, node_size}
 use Rattle.plan.specs.Plans.{leg_in, params_of}
 use Rattle.evaluation.specs.Flight as byname
-use Rattle.flight.specs.Nodes.{Runner, Runs, no_leg, kind_at, end_at, kid2, kid3, level_of}
+use Rattle.flight.specs.Nodes.{Runner, no_leg, kind_at, end_at, kid2, kid3, level_of}
 use Rattle.flight.specs.Tables.{Tables, size_at}
-use Rattle.flight.specs.Means.{scope_at, entry_of, state_of}
+use Rattle.flight.specs.Means.{scope_at, entry_of}
 use Rattle.flight.specs.Sound.{Under, Laid, Sound}
-use Rattle.flight.specs.Fly.{Aloft, shown}
+use Rattle.flight.specs.Fly.{Aloft}
 use Rattle.plan.specs.declared.Node.{Node}
 use Rattle.plan.specs.declared.Node.TheVariants.{Unit as k_unit, Number, Name, Let, Take, Pair, Split, Left, Right, Case, Call, Add, Less}
 use Rattle.plan.specs.declared.Row.{Row}
 use Rattle.plan.specs.declared.Leg.{Leg}
-use Rattle.flight.specs.declared.machine.Part.{Part}
 use Rattle.flight.specs.declared.machine.Part.TheVariants.{Nothing, InLeft, InRight}
 use Rattle.flight.specs.declared.machine.Control.{Control}
-use Rattle.flight.specs.declared.machine.Control.TheVariants.{Eval}
 
 -- The legs below the one that a node stands in, the last one first.
 abbrev pub below_from : List Row → List plan.Leg → List Leg → ℕ → List plan.Leg

@@ -1,16 +1,12 @@
 -- The tables of a machine, and what they hold. Assumes nothing.
-use Rattle.std.specs.Prelude.{◌≡◌, ℕ, zero, suc, pred, ◌+◌, ◌-◌, ◌<◌, ◌≤◌, cond, List, [], ◌∷◌, ◌++◌, map, length, vec_items, slice_index_or}
-use Rattle.evaluation.specs.Flight as byname
+use Rattle.std.specs.Prelude.{ℕ, zero, suc, ◌+◌, List, [], ◌∷◌, ◌++◌, length, vec_items, slice_index_or}
 use Rattle.flight.specs.declared.machine.Part.{Part}
-use Rattle.flight.specs.declared.machine.Part.TheVariants.{Nothing, Num, Both, InLeft, InRight}
 use Rattle.flight.specs.declared.machine.What.{What}
-use Rattle.flight.specs.declared.machine.What.TheVariants.{Thunk, Kept, Store}
+use Rattle.flight.specs.declared.machine.What.TheVariants.{Store}
 use Rattle.flight.specs.declared.machine.Binding.{Binding}
-use Rattle.flight.specs.declared.machine.Phase.{Phase}
-use Rattle.flight.specs.declared.machine.Phase.TheVariants.{First, Second}
+use Rattle.flight.specs.declared.machine.Phase.TheVariants.{First}
 use Rattle.flight.specs.declared.machine.Frame.{Frame}
 use Rattle.flight.specs.declared.machine.Entry.{Entry}
-use Rattle.flight.specs.declared.machine.Event.{Event}
 use Rattle.flight.specs.declared.machine.Event.TheVariants.{Made as made_event, Lookup as lookup_event}
 use Rattle.flight.specs.declared.machine.Machine.{Machine}
 

@@ -1,7 +1,7 @@
 -- The arguments of a call, from the last to the first. Assumes nothing.
-use Rattle.std.proofs.Common.{◌≡◌, ℕ, zero, suc, ◌+◌, ◌-◌, ◌<◌, ◌≤◌, List, [], ◌∷◌, ◌++◌, map, length, get_or, take, drop, sym, refl, ap, ◌∙◌, subst, ap₂, append_assoc, append-nil, add-one, arith, length-append}
+use Rattle.std.proofs.Common.{◌≡◌, ℕ, zero, suc, ◌+◌, ◌<◌, List, [], ◌∷◌, ◌++◌, length, get_or, take, drop, sym, ap, ◌∙◌, ap₂, append_assoc, append-nil, add-one, arith}
 use lib.ListN.{length-replicate, length-map}
-use Rattle.std.proofs.lemmas.List.{take_more, drop_more, take_all, drop_all, take_at, length-take-le}
+use Rattle.std.proofs.lemmas.List.{take_more, drop_more, take_all, drop_all}
 use Rattle.scales.specs.Laws.{Ops}
 use Rattle.scales.specs.Rows.{row_plus, row_times, row_zero}
 use Rattle.scales.proofs.RowLists.{length_zip}

@@ -1,18 +1,18 @@
 -- A node's kids' contexts become its own: each kind of node. Assumes nothing.
-use Rattle.std.proofs.Common.{◌≡◌, ℕ, zero, suc, ◌+◌, ◌-◌, ◌<◌, ◌≤◌, List, [], ◌∷◌, ◌++◌, length, get_or, take, drop, set, sym, refl, ap, ◌∙◌, subst, ap₂, append_assoc, append-nil, add-one, arith, length-append, length-set}
+use Rattle.std.proofs.Common.{◌≡◌, ℕ, zero, suc, ◌+◌, ◌<◌, ◌≤◌, List, [], ◌∷◌, ◌++◌, length, get_or, take, drop, set, sym, refl, ap, ◌∙◌, ap₂, append_assoc, append-nil, add-one, arith, length-append}
 use lib.ListN.{length-map}
-use Rattle.std.proofs.lemmas.List.{length-take-le, set_split, get_or_append_left, take-set-le, drop-set-lt, take-append-drop, get_or_default}
+use Rattle.std.proofs.lemmas.List.{length-take-le, set_split, get_or_append_left, take-append-drop}
 use Rattle.scales.specs.Laws.{Ops}
-use Rattle.scales.specs.Rows.{row_plus, row_join, row_times, row_zero}
+use Rattle.scales.specs.Rows.{row_plus, row_join, row_times}
 use Rattle.scales.proofs.RowLists.{length_zip}
 use Rattle.plan.specs.declared.Node.{Node}
 use Rattle.plan.specs.declared.Binder.{Binder}
 use Rattle.plan.specs.declared.LegId.{LegId}
-use Rattle.plan.specs.declared.Node.TheVariants.{Unit as Unit', Number, Name, Let, Take, Pair, Split, Left, Right, Case, Call, Add, Less}
+use Rattle.plan.specs.declared.Node.TheVariants.{Let, Split, Case, Call}
 use Rattle.plan.specs.Kinds.{kids_of}
 use Rattle.grader.specs.declared.contexts.Contexts.{Contexts}
 use Rattle.grader.specs.Stack.{held, room}
-use Rattle.grader.specs.Walk.{RowsOn, KidsOn, Closed, concat, kid_row, kid_width, inner_width, put, node_row, own_grades}
+use Rattle.grader.specs.Walk.{RowsOn, KidsOn, Closed, concat, kid_row, kid_width, put, node_row, own_grades}
 
 module _ {G : Type 0} where
   -- ---- writing answers

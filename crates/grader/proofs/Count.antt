@@ -1,9 +1,9 @@
 -- How many binders a plan has, by its tables. Assumes nothing.
-use Rattle.std.proofs.Common.{◌≡◌, ℕ, zero, suc, ◌+◌, ◌-◌, ◌<◌, ◌≤◌, List, [], ◌∷◌, ◌++◌, length, get_or, take, drop, sym, refl, ap, ◌∙◌, subst, ap₂, append-nil, arith}
+use Rattle.std.proofs.Common.{◌≡◌, ℕ, zero, suc, ◌+◌, ◌<◌, ◌≤◌, List, [], ◌∷◌, ◌++◌, length, get_or, take, drop, sym, ap, ◌∙◌, ap₂, append-nil, arith}
 use Rattle.std.proofs.lemmas.List.{take_more, take_all, drop_all}
 use Rattle.plan.specs.declared.Leg.{Leg as FlatLeg}
 use Rattle.plan.specs.declared.Row.{Row}
-use Rattle.plan.specs.Trees.{Leg, flat}
+use Rattle.plan.specs.Trees.{flat}
 use Rattle.plan.specs.Written.{binders_in}
 use Rattle.plan.specs.Table.{nodes_of, term_at, node_size, Spells, InOrder}
 use Rattle.plan.specs.Plans.{params_of, leg_in, legs_in}
@@ -14,7 +14,7 @@ use Rattle.typer.specs.Walk.{no_leg}
 use Rattle.grading.specs.Grading.{turned}
 use Rattle.grading.specs.Least.{legs_binders}
 use Rattle.grading.proofs.Turned.{turned_push}
-use Rattle.grader.specs.Walk.{LegReady, LegsReady}
+use Rattle.grader.specs.Walk.{LegReady}
 
 -- The last body ends with the table.
 last_ends : (p : ℕ) (ns : List Row) (gs : List FlatLeg) (k : ℕ) → k + 1 ≡ length gs → InOrder p ns gs → (get_or gs k no_leg).first + node_size (term_at ns (get_or gs k no_leg).first) ≡ length ns

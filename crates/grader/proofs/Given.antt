@@ -1,5 +1,5 @@
 -- What the tables of an accepted plan give to the call. Assumes nothing.
-use Rattle.std.proofs.Common.{◌≡◌, ℕ, suc, ◌≤◌, true, cond, leb, List, [], ◌∷◌, length, Ok, Err, vec_items, sym, refl, ap, ◌∙◌, subst, ap₂, arith, le-leb}
+use Rattle.std.proofs.Common.{◌≡◌, ℕ, suc, ◌≤◌, cond, List, [], ◌∷◌, length, Ok, Err, vec_items, sym, refl, ap, ◌∙◌, subst, ap₂, le-leb}
 use Rattle.scales.specs.Laws.{Ops}
 use Rattle.plan.specs.declared.Plan.{Plan as FlatPlan}
 use Rattle.plan.specs.declared.Leg.{Leg as FlatLeg}
@@ -10,11 +10,11 @@ use Rattle.plan.specs.Plans.{tree, Sound, legs_in}
 use Rattle.typer.specs.Typing.{PlanTyped}
 use Rattle.typer.specs.Accepted.{typed}
 use Rattle.grading.specs.Grading.{turned}
-use Rattle.grading.specs.Least.{least, legs_grades, legs_binders, binder_count}
+use Rattle.grading.specs.Least.{least, binder_count}
 use Rattle.grading.proofs.Standing.{legs_counted}
 use Rattle.grader.specs.declared.faults.GradeFault.TheVariants.{Short}
 use Rattle.grader.specs.Walk.{LegsReady}
-use Rattle.grader.specs.Grades.{work_places, if_plan, if_room, graded}
+use Rattle.grader.specs.Grades.{work_places, if_plan, graded}
 use Rattle.grader.proofs.Ready.{legs_ready}
 
 legs_long : (ns : List Row) (gs : List FlatLeg) → length (legs_in ns gs) ≡ length gs

@@ -1,7 +1,7 @@
 -- Legs, one after another. Assumes nothing.
-use Rattle.std.proofs.Common.{◌≡◌, ℕ, zero, suc, ◌+◌, ◌-◌, ◌<◌, ◌≤◌, Bool, true, false, cond, eqb, List, [], ◌∷◌, ◌++◌, length, get_or, take, set, sym, refl, ap, ◌∙◌, subst, ap₂, inl, inr, zero-add, arith, length-append, eq-eqb, ne_eqb}
-use Rattle.std.proofs.lemmas.List.{take_more, take_all, length-take-le, get_or-take, get_or_append_left, get_or-append_right, length_push, get_or_push}
-use Rattle.std.proofs.lemmas.Bool.{cases_lt, eqb-true, eqb-false, cond_both}
+use Rattle.std.proofs.Common.{◌≡◌, ℕ, zero, suc, ◌+◌, ◌-◌, ◌<◌, ◌≤◌, true, false, cond, eqb, List, [], ◌∷◌, ◌++◌, length, get_or, take, set, sym, refl, ap, ◌∙◌, subst, ap₂, inl, inr, arith, length-append, eq-eqb, ne_eqb}
+use Rattle.std.proofs.lemmas.List.{take_more, take_all, length-take-le, get_or-take, get_or_append_left}
+use Rattle.std.proofs.lemmas.Bool.{cases_lt}
 use Rattle.scales.specs.Laws.{Ops}
 use Rattle.plan.specs.declared.Leg.{Leg as FlatLeg}
 use Rattle.plan.specs.declared.Row.{Row}
@@ -17,7 +17,7 @@ use Rattle.grading.specs.Least.{need, param_needs, leg_needs, inner, from_0, leg
 use Rattle.grading.proofs.Binders.{needs_length}
 use Rattle.grading.proofs.Numbers.{inner_counted, from_0_length}
 use Rattle.grading.proofs.Standing.{legs_counted}
-use Rattle.grader.specs.Walk.{Fit, Known, ParamsIn, params_at, param_grade, lower_needs, put, LegReady, LegsReady}
+use Rattle.grader.specs.Walk.{Known, ParamsIn, param_grade, put, LegsReady}
 use Rattle.grader.proofs.Merging.{getD_from_0}
 use Rattle.grader.proofs.Puts.{put_more, put_below, put_here, put_long}
 use Rattle.grader.proofs.Closing.{put_none, put_one}

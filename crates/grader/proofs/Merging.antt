@@ -1,10 +1,10 @@
 -- Contexts on a stack, by lists. Assumes nothing.
-use Rattle.std.proofs.Common.{◌≡◌, ℕ, zero, suc, ◌+◌, ◌-◌, ◌<◌, ◌≤◌, Bool, true, false, cond, eqb, ◌≢◌, List, [], ◌∷◌, ◌++◌, map, length, get_or, take, drop, set, replicate, sym, refl, ap, ◌∙◌, subst, ap₂, inl, inr, append_assoc, arith, length-append, length-drop, length-set, length-take, rules, eq-eqb, ne_eqb}
+use Rattle.std.proofs.Common.{◌≡◌, ℕ, zero, suc, ◌+◌, ◌-◌, ◌<◌, ◌≤◌, cond, List, ◌++◌, length, get_or, take, drop, set, replicate, sym, refl, ap, ◌∙◌, subst, ap₂, inl, inr, append_assoc, arith, length-append, length-set, eq-eqb, ne_eqb}
 use lib.ListN.{length-replicate}
-use Rattle.std.proofs.lemmas.List.{same_lists, get_or-replicate, get_or_append_left, get_or-append_right, get_or-append-add, get_or-take, get_or_default, get_or-set_same, get_or-set_other, take-append-drop, length-take-le, take_at, drop_at, set-append_right, set-append_left}
+use Rattle.std.proofs.lemmas.List.{same_lists, get_or-replicate, get_or_append_left, get_or-append-add, get_or-take, get_or_default, get_or-set_same, get_or-set_other, take-append-drop, length-take-le, take_at, drop_at, set-append_right, set-append_left}
 use Rattle.std.proofs.lemmas.Bool.{cases_lt, cases_eq}
 use borrow.Rule.Slice.PartMut.{put_mid}
-use Rattle.std.proofs.lemmas.Slice.{take-put_mid, overwrites}
+use Rattle.std.proofs.lemmas.Slice.{take-put_mid}
 use Rattle.scales.specs.Laws.{Ops}
 use Rattle.scales.specs.Rows.{zipInto}
 use Rattle.scales.proofs.RowLists.{length_zip, get_d_zip}

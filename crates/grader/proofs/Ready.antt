@@ -1,5 +1,5 @@
 -- The legs of an accepted plan can be graded. Assumes nothing.
-use Rattle.std.proofs.Common.{◌≡◌, ℕ, zero, suc, ◌+◌, ◌-◌, ◌<◌, ◌≤◌, Bool, true, false, cond, eqb, List, [], ◌∷◌, ◌++◌, length, get_or, take, vec_items, sym, refl, ap, ◌∙◌, subst, ap₂, inl, inr, arith, eq-eqb, ne_eqb}
+use Rattle.std.proofs.Common.{◌≡◌, ℕ, zero, suc, ◌+◌, ◌-◌, ◌<◌, ◌≤◌, true, false, cond, eqb, List, [], ◌∷◌, length, get_or, take, vec_items, sym, refl, ap, ◌∙◌, subst, inl, inr, arith, eq-eqb, ne_eqb}
 use Rattle.std.proofs.lemmas.List.{take_all, get_or-take, length-take-le}
 use Rattle.std.proofs.lemmas.Bool.{cases_lt}
 use Rattle.scales.specs.declared.scale.Ceiling.TheVariants.{Unbounded}
@@ -16,8 +16,8 @@ use Rattle.typer.specs.Typing.{World, Typed, AllTyped, scope_on, LegTyped, LegsT
 use Rattle.typer.specs.Walk.{no_leg as no_flat}
 use Rattle.grading.specs.Grading.{turned, at, no_leg, arity}
 use Rattle.grading.proofs.Formed.{Formed, AllFormed, LegsFormed}
-use Rattle.grading.proofs.Standing.{LegStands, LegsStand, types_of, accepted_stands, accepted_formed}
-use Rattle.grader.specs.Walk.{Fit, FitEach, Callable, LegReady, LegsReady}
+use Rattle.grading.proofs.Standing.{LegsStand, types_of, accepted_stands, accepted_formed}
+use Rattle.grader.specs.Walk.{Fit, FitEach, Callable, LegsReady}
 use Rattle.grader.proofs.Legs.{lower, lower_more}
 
 module _ (w : World) (legs : List Leg) (gs : List FlatLeg) (callable : (l c : ℕ) → l < length legs → c ≡ arity (at no_leg legs l) → Callable gs l c) where

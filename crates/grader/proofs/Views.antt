@@ -1,7 +1,7 @@
 -- The least grades of an expression by those of its kids. Assumes nothing.
-use Rattle.std.proofs.Common.{◌≡◌, ℕ, zero, suc, ◌+◌, ◌<◌, ◌≤◌, List, [], ◌∷◌, ◌++◌, map, length, get_or, replicate, sym, refl, ap, ◌∙◌, subst, ap₂, append_assoc, append-nil, arith}
+use Rattle.std.proofs.Common.{◌≡◌, ℕ, zero, suc, ◌+◌, ◌<◌, ◌≤◌, List, [], ◌∷◌, ◌++◌, map, length, get_or, replicate, sym, refl, ap, ◌∙◌, ap₂, append_assoc, append-nil, arith}
 use Rattle.scales.specs.Laws.{Ops}
-use Rattle.scales.specs.Rows.{zipInto, row_plus, row_join, row_times, row_zero}
+use Rattle.scales.specs.Rows.{zipInto, row_plus, row_times}
 use Rattle.plan.specs.declared.LegId.{LegId as LegId'}
 use Rattle.plan.specs.declared.Leg.{Leg as FlatLeg}
 use Rattle.plan.specs.declared.Node.{Node}
@@ -9,9 +9,8 @@ use Rattle.plan.specs.declared.Node.TheVariants.{Unit as Unit', Number, Name, Le
 use Rattle.plan.specs.Kinds.{kids_of, binders}
 use Rattle.plan.specs.Limits.{max_levels}
 use Rattle.plan.specs.Trees.{Term, t_unit, t_number, t_name, t_let, t_take, t_pair, t_split, t_left, t_right, t_case, t_call, t_add, t_less, Terms, t_none, t_more, how_many, the_leg, head, arguments, kids}
-use Rattle.grading.specs.Grading.{at, one_of}
 use Rattle.grading.specs.Least.{need, needs, inner, inner_of_each, from_0}
-use Rattle.grader.specs.Walk.{Fit, FitEach, HeadFit, Callable, kid_width, node_row, own_grades, call_row, kid_row, param_grade}
+use Rattle.grader.specs.Walk.{Fit, FitEach, HeadFit, Callable, kid_width, node_row, own_grades, call_row, param_grade}
 use Rattle.grader.proofs.Merging.{getD_from_0, length_from_0}
 
 module _ {G : Type 0} where

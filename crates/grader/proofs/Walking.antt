@@ -1,19 +1,18 @@
 -- The walk from kid to kid. Assumes nothing.
-use Rattle.std.proofs.Common.{◌≡◌, ℕ, zero, suc, ◌+◌, ◌*◌, ◌<◌, ◌≤◌, List, [], ◌∷◌, ◌++◌, length, get_or, sym, refl, ap, ◌∙◌, subst, ap₂, append_assoc, append-nil, arith, length-append}
+use Rattle.std.proofs.Common.{◌≡◌, ℕ, suc, ◌+◌, ◌*◌, ◌<◌, ◌≤◌, List, [], ◌∷◌, ◌++◌, length, get_or, sym, refl, ap, ◌∙◌, subst, ap₂, append_assoc, append-nil, arith, length-append}
 use Rattle.scales.specs.Laws.{Ops}
-use Rattle.plan.specs.declared.Node.{Node}
 use Rattle.plan.specs.declared.Row.{Row}
 use Rattle.plan.specs.declared.Leg.{Leg as FlatLeg}
 use Rattle.plan.specs.Limits.{max_levels}
-use Rattle.plan.specs.Kinds.{kids_of, binders}
+use Rattle.plan.specs.Kinds.{binders}
 use Rattle.plan.specs.Trees.{Term, flat, head, kids}
 use Rattle.plan.specs.Table.{term_at, row_at, node_size, Stand}
 use Rattle.plan.proofs.Ends.{some_nodes}
 use Rattle.plan.proofs.Stacks.{flat_all}
 use Rattle.plan.proofs.Kids.{flat_head, kids_counted}
 use Rattle.typer.specs.Walk.{no_leg}
-use Rattle.grading.specs.Least.{need, inner, from_0}
-use Rattle.grader.specs.Walk.{Fit, HeadFit, Callable, KidsOn, Closed, Known, ParamsIn, params_at, param_grade, kid_width, node_row, own_grades, concat, put}
+use Rattle.grading.specs.Least.{inner}
+use Rattle.grader.specs.Walk.{Fit, KidsOn, Closed, Known, ParamsIn, params_at, param_grade, kid_width, node_row, own_grades, concat, put}
 use Rattle.grader.proofs.Merging.{length_from_0}
 use Rattle.grader.proofs.Calling.{concat_push}
 use Rattle.grader.proofs.Puts.{put_more, put_front, put_below, put_long}

@@ -7,13 +7,13 @@ use Rattle.plan.specs.declared.Row.{Row}
 use Rattle.plan.specs.declared.Node.{Node}
 use Rattle.plan.specs.declared.Node.TheVariants.{Unit as Unit', Number, Name, Let, Take, Pair, Split, Left, Right, Case, Call, Add, Less}
 use Rattle.plan.specs.Limits.{max_levels, max_nodes, max_params}
-use Rattle.plan.specs.Kinds.{kids_of, binders}
-use Rattle.plan.specs.Trees.{Term, t_unit, t_number, t_name, t_let, t_take, t_pair, t_split, t_left, t_right, t_case, t_call, t_add, t_less, Terms, t_none, t_more, how_many, kids}
+use Rattle.plan.specs.Kinds.{kids_of}
+use Rattle.plan.specs.Trees.{Term, t_unit, t_number, t_name, t_let, t_take, t_pair, t_split, t_left, t_right, t_case, t_call, t_add, t_less, Terms, t_none, t_more, how_many}
 use Rattle.plan.specs.Table.{term_at, node_size}
 use Rattle.plan.specs.Plans.{legs_in, params_of}
 use Rattle.typer.specs.Walk.{no_leg}
 use Rattle.grading.specs.Grading.{at, one_of, turned}
-use Rattle.grading.specs.Least.{need, inner, from_0, leg_needs, legs_binders}
+use Rattle.grading.specs.Least.{from_0, leg_needs, legs_binders}
 
 -- A list with others in the places from k on.
 abbrev pub put : {G : Type 0} → ℕ → List G → List G → List G

@@ -1,5 +1,5 @@
 -- A grading that gives each binder its least grade is allowed. Assumes nothing.
-use Rattle.std.proofs.Common.{◌≡◌, ℕ, zero, suc, ◌+◌, ◌<◌, List, [], ◌∷◌, length, sym, ap, ◌∙◌, subst, add-zero, zero-add, arith}
+use Rattle.std.proofs.Common.{◌≡◌, ℕ, suc, ◌+◌, ◌<◌, List, [], ◌∷◌, length, sym, ap, ◌∙◌, subst, add-zero, zero-add, arith}
 use Rattle.scales.specs.Laws.{Ops, Laws}
 use Rattle.plan.specs.Trees.{Term, t_unit, t_number, t_name, t_let, t_take, t_pair, t_split, t_left, t_right, t_case, t_call, t_add, t_less, Terms, t_none, t_more, how_many, Leg}
 use Rattle.grading.specs.Grading.{at, no_leg, arity, Leq, Above, Graded, Arguments, LegsAllowed}

@@ -5,7 +5,6 @@ use Rattle.scales.specs.Laws.{Ops}
 use Rattle.plan.specs.declared.Node.{Node}
 use Rattle.plan.specs.Trees.{Term, t_unit, t_number, t_name, t_let, t_take, t_pair, t_split, t_left, t_right, t_case, t_call, t_add, t_less, Terms, t_none, t_more, flat, flats}
 use Rattle.plan.specs.Written.{Run, with_node, NodeLaid, binders_in}
-use Rattle.grading.specs.Grading.{at}
 use Rattle.grading.specs.Least.{inner, inner_of_each, from_0}
 use Rattle.grading.proofs.Binders.{Binders, AllBinders}
 

@@ -1,5 +1,5 @@
 -- The worked examples. Assumes nothing.
-use Rattle.std.proofs.Common.{◌≡◌, ℕ, zero, ◌+◌, min, List, [], ◌∷◌, get_or, sym, refl, ap, ◌∙◌, subst, ap₂, arith}
+use Rattle.std.proofs.Common.{◌≡◌, ℕ, ◌+◌, min, List, [], ◌∷◌, get_or, sym, refl, ap, ◌∙◌, subst, ap₂, arith}
 use Rattle.scales.specs.Laws.{Ops, Laws}
 use Rattle.scales.specs.Set.{Holds, set_one, set_plus, ◌∈◌}
 use Rattle.scales.specs.declared.set.Set.{Set}

@@ -1,5 +1,5 @@
 -- As many kinds as grades are listed, and the grades fill their lists. Assumes nothing.
-use Rattle.std.proofs.Common.{◌≡◌, ℕ, zero, suc, ◌+◌, ◌≤◌, cond, leb, List, [], ◌∷◌, ◌++◌, length, take, drop, Ok, Err, Result, sym, refl, ap, ◌∙◌, subst, ap₂, append-nil, arith, length-append, le-leb}
+use Rattle.std.proofs.Common.{◌≡◌, ℕ, zero, suc, ◌+◌, ◌≤◌, cond, List, [], ◌∷◌, ◌++◌, length, take, drop, Ok, Err, Result, sym, refl, ap, ◌∙◌, append-nil, arith, length-append, le-leb}
 use Rattle.std.proofs.lemmas.List.{drop_all, take_at}
 use Rattle.scales.specs.Laws.{Ops}
 use Rattle.plan.specs.declared.Node.{Node}

@@ -6,8 +6,8 @@ use Rattle.plan.specs.declared.Row.{Row}
 use Rattle.plan.specs.declared.Leg.{Leg as FlatLeg}
 use Rattle.plan.specs.Plans.{params_of, legs_in}
 use Rattle.typer.specs.Walk.{no_leg}
-use Rattle.plan.specs.Trees.{Term, flat, head, kids}
-use Rattle.plan.specs.Table.{nodes_of, term_at, row_at, node_size, Stand, Spells, InOrder}
+use Rattle.plan.specs.Trees.{flat}
+use Rattle.plan.specs.Table.{nodes_of, term_at, node_size, Spells, InOrder}
 use Rattle.plan.proofs.Kids.{rows_here}
 use Rattle.listing.specs.declared.BinderKind.{BinderKind}
 use Rattle.listing.specs.declared.BinderKind.TheVariants.{Param}

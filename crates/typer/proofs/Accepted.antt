@@ -1,7 +1,6 @@
 -- From the two layers' laws to the whole. Assumes nothing.
-use Rattle.std.proofs.Common.{◌≡◌, ℕ, ◌+◌, ◌≤◌, List, [], ◌∷◌, ◌++◌, length, drop, Ok, Err, vec_items, Result, sym, refl, ap, ◌∙◌, subst, ap₂, arith, length-append}
+use Rattle.std.proofs.Common.{◌≡◌, ℕ, ◌+◌, ◌≤◌, List, length, drop, Ok, Err, vec_items, Result, sym, refl, ap, ◌∙◌, subst, ap₂, arith, length-append}
 use Rattle.plan.specs.declared.faults.ReadFault.{ReadFault}
-use Rattle.plan.specs.declared.faults.TypeFault.{TypeFault}
 use Rattle.plan.specs.declared.faults.PlanFault.{PlanFault}
 use Rattle.plan.specs.declared.faults.PlanFault.TheVariants.{Read, Typing, Memory}
 use Rattle.plan.specs.declared.Plan.{Plan as FlatPlan}
@@ -10,15 +9,14 @@ use Rattle.plan.specs.declared.Leg.{Leg as FlatLeg}
 use Rattle.plan.specs.declared.Row.{Row}
 use Rattle.plan.specs.Table.{Spells, InOrder}
 use Rattle.typer.specs.Levels.{leg_levels, plan_levels}
-use Rattle.plan.specs.Limits.{max_entries}
 use Rattle.plan.specs.Trees.{Plan}
-use Rattle.plan.specs.Written.{written, WellLaid, built_in, none_before}
+use Rattle.plan.specs.Written.{built_in, none_before}
 use Rattle.reader.specs.Reading.{read}
 use Rattle.reader.specs.Laws.{ReadExactly}
 use Rattle.plan.specs.Plans.{tree, Sound, legs_in}
 use Rattle.reader.specs.Replies.{ReadAnswer}
 use Rattle.typer.specs.declared.TypedPlan.{TypedPlan}
-use Rattle.typer.specs.Typing.{Reached, World, check_plan, check_legs, PlanTyped, world_of}
+use Rattle.typer.specs.Typing.{Reached, check_plan, check_legs, world_of}
 use Rattle.typer.specs.Walk.{world}
 use Rattle.typer.specs.Depths.{BodiesFew}
 use Rattle.typer.specs.Accepted.{with_types, then_types, typed, AcceptedExactly, TypedAnswer}

@@ -1,9 +1,8 @@
 -- Legs, one after another. Assumes nothing.
-use Rattle.std.proofs.Common.{◌≡◌, ℕ, zero, suc, ◌+◌, ◌-◌, ◌<◌, ◌≤◌, Bool, true, false, cond, ◌&&◌, eqb, List, [], ◌∷◌, ◌++◌, map, length, get_or, take, drop, Ok, Err, sym, refl, ap, ◌∙◌, subst, ap₂, append_assoc, append-nil, arith, length-append, eq-eqb, ne_eqb}
+use Rattle.std.proofs.Common.{◌≡◌, ℕ, zero, suc, ◌+◌, ◌<◌, ◌≤◌, Bool, true, false, cond, ◌&&◌, List, [], ◌∷◌, ◌++◌, map, length, get_or, take, drop, Ok, Err, sym, refl, ap, ◌∙◌, subst, ap₂, append_assoc, append-nil, arith, length-append, eq-eqb, ne_eqb}
 use Rattle.std.proofs.lemmas.List.{take_more, drop_all}
 use Rattle.std.proofs.lemmas.Bool.{and_from, and_parts}
 use Rattle.plan.specs.declared.TypeId.{TypeId}
-use Rattle.plan.specs.declared.Type.{«Type» as Shape}
 use Rattle.plan.specs.declared.Leg.{Leg as FlatLeg}
 use Rattle.plan.specs.declared.Row.{Row}
 use Rattle.plan.specs.declared.Node.{Node}
@@ -11,14 +10,13 @@ use Rattle.plan.specs.declared.Node.TheVariants.{Unit as Unit', Number, Name, Le
 use Rattle.plan.specs.declared.faults.TypeFault.{TypeFault}
 use Rattle.plan.specs.declared.faults.TypeFault.TheVariants.{«Type» as BadType}
 use Rattle.plan.specs.Kinds.{kids_of}
-use Rattle.plan.specs.Limits.{max_params, max_nodes}
-use Rattle.plan.specs.Trees.{Term, Leg, flat}
-use Rattle.plan.specs.Written.{Run, with_node, with_leg, NodeLaid, LegLaid, Before, none_before}
-use Rattle.plan.specs.Table.{term_at, row_at, node_size, Spells, InOrder}
+use Rattle.plan.specs.Limits.{max_params}
+use Rattle.plan.specs.Trees.{Leg, flat}
+use Rattle.plan.specs.Written.{Run, with_node, with_leg, NodeLaid, LegLaid, Before}
+use Rattle.plan.specs.Table.{term_at, node_size, InOrder}
 use Rattle.plan.specs.Plans.{params_of, leg_in, legs_in}
-use Rattle.plan.proofs.Ends.{some_nodes}
-use Rattle.typer.specs.Typing.{World, Sig, Reached, then_type, if_same, same_id, numbers, numbers_only, check_leg, check_legs, sig_of, scope_on, unit_type, number_type}
-use Rattle.typer.specs.Walk.{world, sigs_of, no_leg, EachFew, deals_in_numbers}
+use Rattle.typer.specs.Typing.{World, then_type, same_id, numbers, check_leg, check_legs, sig_of, scope_on, unit_type, number_type}
+use Rattle.typer.specs.Walk.{sigs_of, no_leg, EachFew, deals_in_numbers}
 use Rattle.typer.specs.Levels.{levels, leg_levels}
 use Rattle.typer.specs.Depths.{FewKids, BodiesFew}
 use Rattle.typer.proofs.Views.{levels_length}

@@ -1,5 +1,5 @@
 -- The typer's definition and the rules agree. Assumes nothing.
-use Rattle.std.proofs.Common.{◌≡◌, ℕ, zero, suc, ◌+◌, ◌-◌, ◌<◌, ◌≤◌, Bool, true, false, cond, ◌&&◌, eqb, leb, List, [], ◌∷◌, ◌++◌, map, length, Some, None, Ok, Err, Option, Result, sym, refl, ap, ◌∙◌, subst, ap₂, arith, eq-eqb, eqb-true, le-leb, leb-true}
+use Rattle.std.proofs.Common.{◌≡◌, ℕ, suc, ◌+◌, ◌≤◌, Bool, true, false, cond, leb, List, [], ◌∷◌, length, Some, None, Ok, Err, Option, sym, refl, ap, ◌∙◌, subst, ap₂, arith, eq-eqb, eqb-true, le-leb, leb-true}
 use Rattle.std.proofs.lemmas.Bool.{and_parts, and_from}
 use Rattle.std.specs.List.{slice_get}
 use Rattle.plan.specs.declared.TypeId.{TypeId}
@@ -7,9 +7,9 @@ use Rattle.plan.specs.Limits.{max_levels}
 use Rattle.plan.specs.declared.Type.{«Type» as Shape}
 use Rattle.plan.specs.declared.Type.TheVariants.{Unit as UnitType, Number as NumberType, Pair as PairType, Either as EitherType}
 use Rattle.plan.specs.declared.faults.TypeFault.{TypeFault}
-use Rattle.plan.specs.declared.faults.TypeFault.TheVariants.{Name as BadName, «Type» as BadType, Scope as BadScope}
-use Rattle.plan.specs.Trees.{Term, t_unit, t_number, t_name, t_let, t_take, t_pair, t_split, t_left, t_right, t_case, t_call, t_add, t_less, Terms, t_none, t_more, Leg, Plan, flat, the_type}
-use Rattle.typer.specs.Typing.{found, number_of, unit_type, number_type, truth_type, same_id, Sig, World, Typed, AllTyped, Reached, then_type, size, there_at, named_at, if_room, if_same, pair_parts, either_parts, same_list, call_result, check, check_all, scope_on, LegTyped, numbers_only, LegsTyped, PlanTyped, check_leg, check_legs, check_plan, world_of, TypingLaw}
+use Rattle.plan.specs.declared.faults.TypeFault.TheVariants.{«Type» as BadType, Scope as BadScope}
+use Rattle.plan.specs.Trees.{Term, t_unit, t_number, t_name, t_let, t_take, t_pair, t_split, t_left, t_right, t_case, t_call, t_add, t_less, Terms, t_none, t_more, Leg, the_type}
+use Rattle.typer.specs.Typing.{found, unit_type, number_type, truth_type, same_id, World, Typed, AllTyped, Reached, then_type, size, there_at, named_at, if_room, if_same, pair_parts, either_parts, same_list, call_result, check, check_all, scope_on, LegTyped, numbers_only, LegsTyped, check_leg, check_legs, world_of, TypingLaw}
 
 no : {A : Type 0} {e : TypeFault} {X : Type 0} (x : X) → ◌≡◌ {A = Reached X} (Err e) (Ok x) → A
 no x q = absurd (let z : ◌≡◌ {A = ℕ} 0 1 = cc in omega arith)

@@ -1,18 +1,17 @@
 -- The check of an expression by those of its kids, in order. Assumes nothing.
-use Rattle.std.proofs.Common.{◌≡◌, ℕ, zero, suc, ◌+◌, ◌<◌, ◌≤◌, Bool, true, false, cond, eqb, leb, List, [], ◌∷◌, ◌++◌, length, Some, None, Ok, Err, Option, sym, refl, ap, ◌∙◌, subst, ap₂, append_assoc, append-nil, arith, length-append}
+use Rattle.std.proofs.Common.{◌≡◌, ℕ, zero, suc, ◌+◌, Bool, true, false, cond, eqb, leb, List, [], ◌∷◌, ◌++◌, length, Some, None, Ok, Err, Option, sym, refl, ap, ◌∙◌, ap₂, append_assoc, append-nil, length-append}
 use Rattle.std.specs.List.{slice_get}
 use Rattle.plan.specs.declared.TypeId.{TypeId}
 use Rattle.plan.specs.declared.LegId.{LegId as LegId'}
-use Rattle.plan.specs.declared.Node.{Node}
-use Rattle.plan.specs.declared.Node.TheVariants.{Unit as Unit', Number, Name, Let, Take, Pair, Split, Left, Right, Case, Call, Add, Less}
+use Rattle.plan.specs.declared.Node.TheVariants.{Pair, Left, Right, Call, Add, Less}
 use Rattle.plan.specs.declared.faults.TypeFault.{TypeFault}
-use Rattle.plan.specs.declared.faults.TypeFault.TheVariants.{Name as BadName, «Type» as BadType, Scope as BadScope}
+use Rattle.plan.specs.declared.faults.TypeFault.TheVariants.{Scope as BadScope}
 use Rattle.plan.specs.Limits.{max_levels}
 use Rattle.plan.specs.Trees.{Term, t_unit, t_number, t_name, t_let, t_take, t_pair, t_split, t_left, t_right, t_case, t_call, t_add, t_less, Terms, t_none, t_more, how_many, the_leg, flat, flats, head, arguments, kids}
-use Rattle.typer.specs.Typing.{World, Reached, then_type, there_at, named_at, if_room, if_same, pair_parts, either_parts, call_result, check, check_all, found, number_of, size}
-use Rattle.typer.specs.Walk.{kid_at, inner_scope, kid_scope, node_type, check_kids, side}
+use Rattle.typer.specs.Typing.{World, Reached, then_type, there_at, if_room, if_same, pair_parts, either_parts, check, check_all, size}
+use Rattle.typer.specs.Walk.{kid_at, kid_scope, node_type, check_kids}
 use Rattle.typer.specs.Levels.{levels, levels_of_each}
-use Rattle.typer.specs.Depths.{inner_depth, kid_depth, kid_levels}
+use Rattle.typer.specs.Depths.{kid_levels}
 
 -- ---- one kid, two kids, and then the node's own rule
 

@@ -1,5 +1,5 @@
 -- The walk from kid to kid. Assumes nothing.
-use Rattle.std.proofs.Common.{◌≡◌, ℕ, zero, suc, ◌+◌, ◌<◌, ◌≤◌, Bool, true, false, cond, eqb, leb, List, [], ◌∷◌, ◌++◌, length, Some, None, Ok, Err, Option, sym, refl, ap, ◌∙◌, subst, ap₂, append_assoc, append-nil, arith, length-append, eqb-true}
+use Rattle.std.proofs.Common.{◌≡◌, ℕ, suc, ◌+◌, ◌<◌, ◌≤◌, Bool, true, false, cond, leb, List, [], ◌∷◌, ◌++◌, length, Some, None, Ok, Err, Option, sym, refl, ap, ◌∙◌, subst, ap₂, append_assoc, append-nil, arith, length-append}
 use lib.Dec.{eqb-suc-zero}
 use Rattle.std.specs.List.{slice_get}
 use Rattle.plan.specs.declared.TypeId.{TypeId}
@@ -8,14 +8,13 @@ use Rattle.plan.specs.declared.Node.TheVariants.{Unit as Unit', Number, Name, Le
 use Rattle.plan.specs.declared.Row.{Row}
 use Rattle.plan.specs.declared.faults.TypeFault.{TypeFault}
 use Rattle.plan.specs.declared.faults.TypeFault.TheVariants.{Scope as BadScope}
-use Rattle.plan.specs.Limits.{max_levels, max_params}
-use Rattle.plan.specs.Kinds.{kids_of}
+use Rattle.plan.specs.Limits.{max_levels}
 use Rattle.plan.specs.Trees.{Term, flat, head, kids}
-use Rattle.plan.specs.Table.{term_at, row_at, node_size, Stand, Spells}
+use Rattle.plan.specs.Table.{term_at, row_at, node_size, Stand}
 use Rattle.plan.proofs.Stacks.{flat_all}
-use Rattle.plan.proofs.Kids.{flat_head, kids_counted}
-use Rattle.typer.specs.Typing.{World, Reached, then_type, there_at, if_room, pair_parts, either_parts, check, size}
-use Rattle.typer.specs.Walk.{kid_at, opened, opened_twice, side, inner_scope, kid_scope, node_type, check_kids}
+use Rattle.plan.proofs.Kids.{flat_head}
+use Rattle.typer.specs.Typing.{World, Reached, then_type, there_at, pair_parts, either_parts, check, size}
+use Rattle.typer.specs.Walk.{opened, opened_twice, side, inner_scope, kid_scope, node_type, check_kids}
 use Rattle.typer.specs.Levels.{levels}
 use Rattle.typer.specs.Depths.{inner_depth, kid_depth, kid_levels, FewKids}
 use Rattle.typer.proofs.Views.{view, levels_view, levels_length}

@@ -1,6 +1,6 @@
-use Rattle.std.proofs.Common.{◌≡◌, suc, ◌+◌, ◌-◌, ◌*◌, ◌<◌, ◌≤◌, [], ◌∷◌, length, drop, sym, refl, ap, ◌∙◌, ap₂, arith, rules}
+use Rattle.std.proofs.Common.{◌≡◌, suc, ◌+◌, ◌<◌, ◌≤◌, length, drop, sym, ap, ◌∙◌, ap₂, arith, rules}
 use Rattle.std.proofs.lemmas.List.{drop_all}
-use Rattle.plan.specs.Table.{nodes_of, row_at}
+use Rattle.plan.specs.Table.{nodes_of}
 use Rattle.plan.specs.Written.{binders_in}
 use Rattle.plan.proofs.Ends.{drop_nodes, nodes_length}
 use Rattle.grader.proofs.grades.binder_behind.Goals as goal

@@ -1,4 +1,4 @@
-use Rattle.std.proofs.Common.{◌≡◌, ◌+◌, ◌-◌, ◌*◌, ◌≤◌, length, drop}
+use Rattle.std.proofs.Common.{◌≡◌, ◌+◌, ◌-◌, ◌*◌, ◌≤◌, drop}
 use Rattle.plan.specs.Table.{nodes_of}
 use Rattle.plan.specs.Written.{binders_in}
 use Rattle.grader.proofs.grades.binder_behind.Given as goal

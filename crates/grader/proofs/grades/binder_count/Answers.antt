@@ -1,4 +1,4 @@
-use Rattle.std.proofs.Common.{◌≡◌, ◌+◌, ◌-◌, ◌<◌, length, get_or, drop, ap, ◌∙◌, arith, rules}
+use Rattle.std.proofs.Common.{◌≡◌, ◌+◌, ◌-◌, length, get_or, drop, ap, ◌∙◌, arith}
 use Rattle.plan.specs.Table.{nodes_of}
 use Rattle.plan.specs.Written.{binders_in}
 use Rattle.typer.specs.Walk.{no_leg}

@@ -1,8 +1,6 @@
-use Rattle.std.proofs.Common.{◌≡◌, ◌≤◌, [], length, sym, refl, ap, ◌∙◌, subst, arith, rules}
-use Rattle.plan.specs.Plans.{tree, legs_in}
-use Rattle.grading.specs.Grading.{turned}
+use Rattle.std.proofs.Common.{◌≡◌, length, sym, ap, ◌∙◌, arith, rules}
+use Rattle.plan.specs.Plans.{tree}
 use Rattle.grading.specs.Least.{least, legs_grades, legs_binders, binder_count}
-use Rattle.grader.specs.Grades.{work_places}
 use Rattle.grader.specs.Walk.{put}
 use Rattle.grader.proofs.Given.{some_so, spells_so, order_so, ready_so, legs_so, granted, least_long}
 use Rattle.grader.proofs.grades.grades.Goals as goal

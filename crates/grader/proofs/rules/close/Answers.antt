@@ -1,10 +1,8 @@
-use Rattle.std.proofs.Common.{◌≡◌, ℕ, suc, ◌+◌, ◌-◌, ◌<◌, ◌≤◌, List, [], ◌++◌, length, get_or, set, sym, refl, ap, ◌∙◌, subst, add-one, arith, rules}
-use Rattle.plan.specs.declared.Node.{Node}
+use Rattle.std.proofs.Common.{◌≡◌, ℕ, suc, ◌+◌, ◌≤◌, length, set, sym, refl, ◌∙◌, subst, add-one, arith}
 use Rattle.plan.specs.declared.Node.TheVariants.{Unit as Unit', Number, Name, Let, Take, Pair, Split, Left, Right, Case, Call, Add, Less}
-use Rattle.plan.specs.Kinds.{kids_of, binders}
-use Rattle.grader.specs.declared.contexts.Contexts.{Contexts}
+use Rattle.plan.specs.Kinds.{binders}
 use Rattle.grader.specs.Stack.{held, room}
-use Rattle.grader.specs.Walk.{RowsOn, KidsOn, Closed, HeadFit, params_at}
+use Rattle.grader.specs.Walk.{KidsOn, Closed, params_at}
 use Rattle.grader.proofs.Closing.{leaf, pass, summed, no_own, one_own, let_row, split_own, case_own, case_row, arguments_on, there_two, there_three}
 use Rattle.grader.proofs.rules.close.Goals as goal
 

@@ -1,6 +1,5 @@
-use Rattle.std.proofs.Common.{◌≡◌, ℕ, ◌+◌, ◌≤◌, List, ◌++◌, length, get_or, take, drop}
+use Rattle.std.proofs.Common.{◌≡◌, ◌+◌, ◌≤◌, get_or}
 use Rattle.grader.specs.Stack.{held, room}
-use Rattle.grader.specs.Walk.{RowsOn, concat, call_row}
 use Rattle.grader.proofs.Calling.{Calling}
 use Rattle.grader.proofs.rules.close_call.Given as goal
 

@@ -1,18 +1,15 @@
-use Rattle.std.proofs.Common.{◌≡◌, ℕ, suc, ◌+◌, ◌-◌, ◌*◌, ◌<◌, ◌≤◌, List, [], ◌∷◌, ◌++◌, length, sym, refl, ap, ◌∙◌, subst, ap₂, append_assoc, arith, length-append, rules}
+use Rattle.std.proofs.Common.{◌≡◌, ◌+◌, ◌*◌, ◌≤◌, [], ◌++◌, length, sym, refl, ap, ◌∙◌, subst, arith, rules}
 use Rattle.std.proofs.lemmas.List.{length-take-le}
 use Rattle.plan.specs.Kinds.{kids_of, binders}
-use Rattle.plan.specs.declared.Node.{Node}
-use Rattle.plan.specs.Trees.{Term, head, kids, flat}
-use Rattle.plan.specs.Table.{term_at, row_at, node_size}
-use Rattle.plan.proofs.Ends.{some_nodes}
-use Rattle.plan.proofs.Kids.{flat_head, kids_counted}
-use Rattle.plan.proofs.Stacks.{flat_all}
+use Rattle.plan.specs.Trees.{head}
+use Rattle.plan.specs.Table.{term_at, node_size}
+use Rattle.plan.proofs.Kids.{kids_counted}
 use Rattle.grading.specs.Least.{inner}
 use Rattle.grader.specs.Stack.{held, room}
 use Rattle.grader.specs.Walk.{Fit, HeadFit, KidsOn, Closed, Known, ParamsIn, params_at, lower_needs, kid_width, put}
 use Rattle.grader.proofs.Puts.{put_long}
 use Rattle.grader.proofs.Views.{fit_view, row}
-use Rattle.grader.proofs.Walking.{Walking, Next, Walked, begins, next_kid, goes_on, none_left, still_known, closed_row, closed_answers, inner_length}
+use Rattle.grader.proofs.Walking.{Walking, begins, next_kid, goes_on, none_left, still_known, closed_row, closed_answers, inner_length}
 use Rattle.grader.proofs.walk.+grade.Goals as goal
 
 pub overflow_add-binder : goal.overflow_add-binder

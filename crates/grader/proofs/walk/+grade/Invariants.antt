@@ -1,4 +1,4 @@
-use Rattle.std.proofs.Common.{◌≡◌, ◌-◌, ◌<◌, ◌≤◌, length}
+use Rattle.std.proofs.Common.{◌≡◌, ◌-◌, ◌≤◌, length}
 use Rattle.plan.specs.Trees.{kids, head}
 use Rattle.plan.specs.Table.{term_at}
 use Rattle.grader.specs.Stack.{held, room}

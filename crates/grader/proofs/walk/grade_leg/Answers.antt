@@ -1,8 +1,8 @@
-use Rattle.std.proofs.Common.{◌≡◌, ℕ, ◌+◌, ◌*◌, ◌<◌, ◌≤◌, List, [], ◌++◌, length, take, sym, refl, ap, ◌∙◌, subst, ap₂, arith, length-append, rules}
+use Rattle.std.proofs.Common.{◌≡◌, ◌+◌, ◌++◌, length, sym, ap, ◌∙◌, subst, ap₂, arith, length-append}
 use Rattle.std.proofs.lemmas.List.{length-take-le}
-use Rattle.plan.specs.Table.{term_at, node_size}
+use Rattle.plan.specs.Table.{term_at}
 use Rattle.grading.specs.Least.{need, inner, from_0}
-use Rattle.grader.specs.Stack.{held, room}
+use Rattle.grader.specs.Stack.{held}
 use Rattle.grader.specs.Walk.{Fit, lower_needs, put}
 use Rattle.grader.proofs.Merging.{length_from_0}
 use Rattle.grader.proofs.Puts.{put_front, put_long}

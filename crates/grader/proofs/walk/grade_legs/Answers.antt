@@ -1,10 +1,10 @@
-use Rattle.std.proofs.Common.{◌≡◌, ℕ, ◌+◌, ◌<◌, ◌≤◌, List, [], length, take, sym, refl, ap, ◌∙◌, arith, rules}
+use Rattle.std.proofs.Common.{[], ap, ◌∙◌, arith}
 use Rattle.std.proofs.lemmas.List.{take_all}
 use Rattle.plan.specs.Plans.{legs_in}
 use Rattle.grading.specs.Grading.{turned}
 use Rattle.grading.specs.Least.{legs_grades}
 use Rattle.grader.specs.Walk.{put}
-use Rattle.grader.proofs.Legs.{AtLeg, params_so, room_for, next_leg}
+use Rattle.grader.proofs.Legs.{params_so, room_for, next_leg}
 use Rattle.grader.proofs.walk.grade_legs.Goals as goal
 
 pub grade_leg-requires : goal.grade_leg-requires

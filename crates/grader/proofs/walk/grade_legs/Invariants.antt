@@ -1,4 +1,3 @@
-use Rattle.std.proofs.Common.{◌≡◌, length, take}
 use Rattle.grader.proofs.Legs.{AtLeg}
 use Rattle.grader.proofs.walk.grade_legs.Given as goal
 

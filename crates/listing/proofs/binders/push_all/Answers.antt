@@ -1,4 +1,4 @@
-use Rattle.std.proofs.Common.{◌≡◌, ◌+◌, ◌<◌, ◌++◌, length, get_or, take, vec_items, sym, refl, ap, ◌∙◌, subst, append_assoc, rules}
+use Rattle.std.proofs.Common.{◌≡◌, ◌<◌, ◌++◌, length, get_or, take, vec_items, sym, ap, ◌∙◌, append_assoc, rules}
 use Rattle.plan.specs.Table.{nodes_of, no_row}
 use Rattle.listing.specs.Binders.{bound_by, bound_in}
 use Rattle.listing.proofs.Listed.{bound_more, all_nodes}

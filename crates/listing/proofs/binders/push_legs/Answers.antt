@@ -1,8 +1,8 @@
-use Rattle.std.proofs.Common.{◌≡◌, ℕ, ◌+◌, ◌-◌, ◌<◌, ◌≤◌, length, get_or, vec_items, sym, refl, ap, ◌∙◌, subst, inl, inr, arith, rules}
+use Rattle.std.proofs.Common.{◌≡◌, ◌+◌, ◌<◌, length, vec_items, ◌∙◌, inl, inr, arith, rules}
 use Rattle.std.proofs.lemmas.Bool.{cases_lt}
 use Rattle.plan.specs.Table.{term_at, node_size}
 use Rattle.typer.specs.Walk.{no_leg}
-use Rattle.listing.proofs.Listed.{AtLeg, first_leg, few_params, behind_fits, next_first, none_behind, next_leg, all_legs}
+use Rattle.listing.proofs.Listed.{few_params, behind_fits, next_first, none_behind, next_leg, all_legs}
 use Rattle.listing.proofs.binders.push_legs.Goals as goal
 
 pub loop-k-preserved : goal.loop-k-preserved

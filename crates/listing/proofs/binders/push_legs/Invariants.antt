@@ -1,4 +1,4 @@
-use Rattle.std.proofs.Common.{◌≡◌, ◌≤◌, length, vec_items}
+use Rattle.std.proofs.Common.{◌≤◌, length, vec_items}
 use Rattle.plan.specs.Table.{Spells, InOrder}
 use Rattle.listing.proofs.Listed.{AtLeg}
 use Rattle.listing.proofs.binders.push_legs.Given as goal

@@ -1,6 +1,6 @@
-use Rattle.std.proofs.Common.{◌≡◌, ℕ, suc, ◌+◌, ◌<◌, ◌≤◌, length, get_or, Some, None, sym, ap, ◌∙◌, arith, rules}
+use Rattle.std.proofs.Common.{◌≡◌, suc, ◌+◌, ◌≤◌, length, get_or, Some, sym, ap, ◌∙◌, arith, rules}
 use Rattle.plan.specs.declared.Type.TheVariants.{Unit as UnitType}
-use Rattle.typer.specs.Typing.{one_more, place_of}
+use Rattle.typer.specs.Typing.{one_more}
 use Rattle.plan.proofs.Fronts.{front1, rest_of, rest_length}
 use Rattle.typer.proofs.Scopes.{place_empty, place_next, place_small}
 use Rattle.typer.proofs.rules.+place_of.Goals as goal

@@ -1,6 +1,6 @@
-use Rattle.std.proofs.Common.{◌≡◌, ◌+◌, ◌≤◌, ◌∷◌, Ok, sym, ap, ◌∙◌, arith}
+use Rattle.std.proofs.Common.{◌∷◌, Ok, sym, ap, ◌∙◌, arith}
 use Rattle.typer.specs.Walk.{scope_of}
-use Rattle.typer.proofs.Scopes.{room_there, room_not}
+use Rattle.typer.proofs.Scopes.{room_there}
 use Rattle.typer.proofs.rules.opened.Goals as goal
 
 pub returns-then-scope-le-MAX_LEVELS : goal.returns-then-scope-le-MAX_LEVELS

@@ -1,4 +1,4 @@
-use Rattle.std.proofs.Common.{◌≡◌, ◌+◌, ◌≤◌, ◌∷◌, Ok, sym, ap, ◌∙◌, arith}
+use Rattle.std.proofs.Common.{◌∷◌, Ok, sym, ap, ◌∙◌, arith}
 use Rattle.typer.specs.Walk.{scope_of}
 use Rattle.typer.proofs.Scopes.{room_there, room_not}
 use Rattle.typer.proofs.rules.opened_twice.Goals as goal

@@ -1,6 +1,6 @@
-use Rattle.std.proofs.Common.{◌≡◌, ◌≤◌, length, Ok, Err, vec_items, vec_len, vec_capacity, sym, refl, ap, ◌∙◌, subst, arith, rules}
+use Rattle.std.proofs.Common.{Ok, Err, vec_items, rules}
 use Rattle.std.proofs.lemmas.Result.{err_from_is_err_and}
-use Rattle.plan.specs.declared.faults.PlanFault.TheVariants.{Read, Typing, Memory}
+use Rattle.plan.specs.declared.faults.PlanFault.TheVariants.{Typing, Memory}
 use Rattle.typer.proofs.Accepted.{accepted_exactly, types_fit, spells_so, order_so, kids_fit, levels_so, typed_so, refuses, unread}
 use Rattle.typer.proofs.typed.read_typed.Goals as goal
 

@@ -1,19 +1,16 @@
-use Rattle.std.proofs.Common.{◌≡◌, ℕ, ◌+◌, ◌<◌, ◌≤◌, List, [], ◌∷◌, ◌++◌, length, IfOk, Ok, Err, vec_items, vec_len, vec_capacity, Result, sym, refl, ap, ◌∙◌, subst, ap₂, append_assoc, arith, length-append, rules}
-use Rattle.std.proofs.lemmas.List.{length-take-le}
+use Rattle.std.proofs.Common.{◌≡◌, ◌+◌, ◌≤◌, [], ◌∷◌, ◌++◌, length, IfOk, Ok, Err, vec_items, vec_len, vec_capacity, Result, sym, refl, ap, ◌∙◌, subst, append_assoc, arith, length-append, rules}
 use Rattle.std.proofs.lemmas.Result.{err_from_is_err_and}
 use Rattle.plan.specs.Kinds.{kids_of}
-use Rattle.plan.specs.declared.TypeId.{TypeId}
-use Rattle.plan.specs.Trees.{Term, head, kids, flat}
+use Rattle.plan.specs.Trees.{head, flat}
 use Rattle.plan.specs.Table.{term_at, row_at, node_size}
 use Rattle.plan.proofs.Ends.{some_nodes}
 use Rattle.plan.proofs.Stacks.{flat_all}
 use Rattle.plan.proofs.Kids.{flat_head, kids_counted}
-use Rattle.typer.specs.Typing.{check}
 use Rattle.typer.specs.Walk.{world, scope_of, kids_known, kid_scope, node_type}
 use Rattle.typer.specs.Levels.{levels}
 use Rattle.typer.specs.Depths.{FewKids}
 use Rattle.typer.proofs.Scopes.{down_length}
-use Rattle.typer.proofs.Walking.{Walking, Next, Walked, begins, next, no_scope, no_type, goes_on, none_left}
+use Rattle.typer.proofs.Walking.{Walking, begins, next, no_scope, no_type, goes_on, none_left}
 use Rattle.typer.proofs.walk.+type_of.Goals as goal
 
 pub push_reserved-requires : goal.push_reserved-requires

@@ -1,4 +1,4 @@
-use Rattle.std.proofs.Common.{◌≡◌, ◌-◌, ◌<◌, ◌≤◌, length, vec_items, vec_len, vec_capacity}
+use Rattle.std.proofs.Common.{◌≡◌, ◌-◌, ◌≤◌, length, vec_items, vec_capacity}
 use Rattle.plan.specs.Trees.{kids, head}
 use Rattle.plan.specs.Table.{term_at}
 use Rattle.typer.specs.Walk.{world, scope_of, kids_known}

@@ -1,4 +1,4 @@
-use Rattle.std.proofs.Common.{◌≡◌, [], length, take}
+use Rattle.std.proofs.Common.{◌≡◌, [], take}
 use Rattle.typer.specs.Typing.{scope_on}
 use Rattle.typer.specs.Walk.{scope_of}
 use Rattle.typer.proofs.walk.leg_scope.Given as goal

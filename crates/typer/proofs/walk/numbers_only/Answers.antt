@@ -1,4 +1,4 @@
-use Rattle.std.proofs.Common.{◌≡◌, ◌<◌, ◌≤◌, ◌&&◌, length, sym, ap, ◌∙◌, arith, rules}
+use Rattle.std.proofs.Common.{◌≡◌, ◌<◌, ◌&&◌, length, sym, ap, arith, rules}
 use Rattle.typer.specs.Typing.{same_id, number_type}
 use Rattle.typer.proofs.Legs.{numbers_more, numbers_not}
 use Rattle.typer.proofs.walk.numbers_only.Goals as goal

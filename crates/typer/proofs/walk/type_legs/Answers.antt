@@ -1,10 +1,10 @@
-use Rattle.std.proofs.Common.{◌≡◌, ℕ, ◌+◌, ◌-◌, ◌<◌, ◌≤◌, cond, List, [], length, get_or, IfOk, Ok, Err, vec_items, vec_len, vec_capacity, Result, sym, refl, ap, ◌∙◌, subst, arith, rules}
+use Rattle.std.proofs.Common.{◌≡◌, ◌+◌, ◌-◌, ◌<◌, cond, length, get_or, IfOk, Ok, Err, vec_items, Result, sym, ap, ◌∙◌, subst, arith, rules}
 use Rattle.std.proofs.lemmas.Result.{err_from_is_err_and}
 use Rattle.plan.specs.declared.faults.TypeFault.TheVariants.{«Type» as BadType}
 use Rattle.plan.specs.Plans.{leg_in}
 use Rattle.typer.specs.Typing.{check_leg}
 use Rattle.typer.specs.Walk.{world, no_leg}
-use Rattle.typer.proofs.Legs.{no_legs, AtLeg, Here, each_few, first_leg, here, lower_fails, next_leg, main, main_levels}
+use Rattle.typer.proofs.Legs.{no_legs, AtLeg, each_few, here, lower_fails, next_leg, main, main_levels}
 use Rattle.typer.proofs.walk.type_legs.Goals as goal
 
 made_map : {X F P Q : Type 0} (r : Result X F) → (P → Q) → IfOk r (λ _. P) → IfOk r (λ _. Q)

@@ -1,4 +1,4 @@
-use Rattle.std.proofs.Common.{◌≡◌, ◌+◌, List, sym, refl, ap, ◌∙◌, subst}
+use Rattle.std.proofs.Common.{List, sym, refl, ◌∙◌, subst}
 use Rattle.plan.specs.declared.Row.{Row}
 use Rattle.plan.specs.declared.Leg.{Leg}
 use Rattle.flight.specs.Tables.{tables}

@@ -1,11 +1,9 @@
-use Rattle.std.proofs.Common.{◌≡◌, ◌-◌, ◌≤◌, List, length, get_or, sym, refl, ap, ◌∙◌, subst, arith, rules}
-use Rattle.std.proofs.lemmas.List.{get_or_read}
+use Rattle.std.proofs.Common.{List, sym, refl, subst}
 use Rattle.plan.specs.declared.Row.{Row}
 use Rattle.plan.specs.declared.Leg.{Leg}
 use Rattle.flight.specs.Tables.{tables}
 use Rattle.flight.specs.Sound.{Ready}
 use Rattle.flight.specs.Spelled.{Main, Begun}
-use Rattle.flight.specs.Nodes.{no_leg}
 use Rattle.flight.specs.Held.{rows_of, legs_of, main_in}
 use Rattle.flight.proofs.Props.{main_of}
 use Rattle.flight.proofs.Going.{begins}

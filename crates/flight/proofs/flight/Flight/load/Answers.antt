@@ -1,5 +1,4 @@
-use Rattle.std.proofs.Common.{◌≡◌, Ok, sym, refl, ap, ◌∙◌, subst}
-use Rattle.plan.specs.Trees.{Plan}
+use Rattle.std.proofs.Common.{Ok, sym, ap, ◌∙◌, subst}
 use Rattle.plan.specs.Plans.{tree}
 use Rattle.typer.specs.declared.TypedPlan.{TypedPlan}
 use Rattle.flight.specs.Flights.{Flies}

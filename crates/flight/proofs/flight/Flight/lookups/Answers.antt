@@ -1,4 +1,4 @@
-use Rattle.std.proofs.Common.{◌≡◌, ℕ, ◌<◌, ◌≤◌, Bool, cond, length, sym, refl, ap, ◌∙◌, subst, arith, rules, le-ltb, lt-ltb}
+use Rattle.std.proofs.Common.{◌≡◌, ◌≤◌, Bool, cond, length, sym, ap, ◌∙◌, subst, arith, rules, le-ltb, lt-ltb}
 use Rattle.std.proofs.lemmas.List.{length-take}
 use Rattle.plan.specs.Plans.{params_of}
 use Rattle.plan.specs.declared.Leg.{Leg}

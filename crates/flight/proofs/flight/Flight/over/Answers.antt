@@ -1,11 +1,9 @@
-use Rattle.std.proofs.Common.{◌≡◌, ◌-◌, ◌<◌, ◌≤◌, List, length, get_or, vec_items, vec_len, sym, refl, ap, ◌∙◌, subst, arith, rules}
-use Rattle.std.proofs.lemmas.List.{get_or_read}
+use Rattle.std.proofs.Common.{◌≤◌, List, length, vec_len, sym, refl, subst, rules}
 use Rattle.plan.specs.declared.Row.{Row}
 use Rattle.plan.specs.declared.Leg.{Leg}
 use Rattle.flight.specs.Tables.{tables}
 use Rattle.flight.specs.Sound.{Ready}
 use Rattle.flight.specs.Spelled.{Main, Begun}
-use Rattle.flight.specs.Nodes.{no_leg}
 use Rattle.flight.specs.Held.{rows_of, legs_of, main_in}
 use Rattle.flight.proofs.Flyable.{plan_main, some_legs}
 use Rattle.flight.proofs.Going.{begins}

@@ -1,14 +1,7 @@
-use Rattle.std.proofs.Common.{◌≡◌, ℕ, suc, ◌+◌, ◌<◌, ◌≤◌, min, [], ◌∷◌, ◌++◌, length, get_or, sym, refl, ap, ◌∙◌, subst, ap₂, arith, rules}
-use Rattle.std.proofs.lemmas.List.{get_or_read, length_push}
-use Rattle.flight.specs.Tables.{Tables, tables, opened, new_binding, size_at}
-use Rattle.flight.specs.Sound.{Leads, Act}
-use Rattle.flight.specs.Calling.{join_act}
-use Rattle.plan.specs.declared.Node.{Node}
-use Rattle.plan.specs.declared.Node.TheVariants.{Unit as k_unit, Take, Split, Left, Right, Case, Pair, Add, Less}
-use Rattle.flight.specs.declared.machine.Part.TheVariants.{Nothing}
-use Rattle.flight.specs.declared.machine.What.TheVariants.{Kept}
-use Rattle.flight.specs.declared.machine.Control.{Control}
-use Rattle.flight.specs.declared.machine.Control.TheVariants.{Return, Eval}
+use Rattle.std.proofs.Common.{refl, ap}
+use Rattle.flight.specs.Tables.{tables}
+use Rattle.plan.specs.declared.Node.TheVariants.{Take, Case, Pair, Add, Less}
+use Rattle.flight.specs.declared.machine.Control.TheVariants.{Return}
 use Rattle.flight.proofs.Leads.{leads_at}
 use Rattle.flight.proofs.Working.{laid_as}
 use Rattle.flight.proofs.Giving.{after_as, take_binds, splits, split_as, second_waits, second_as, left_leads, right_leads, rest_leads}

@@ -1,9 +1,5 @@
-use Rattle.std.proofs.Common.{◌≡◌, ℕ, suc, ◌+◌, ◌-◌, ◌<◌, ◌≤◌, min, List, [], ◌∷◌, ◌++◌, length, get_or, take, vec_items, sym, refl, ap, ◌∙◌, subst, ap₂, arith, rules}
-use Rattle.std.proofs.lemmas.List.{get_or_read, length_push}
-use Rattle.flight.specs.Tables.{Tables, tables, ticked, no_frame}
-use Rattle.flight.specs.Sound.{Leads, Act, Steps}
-use Rattle.flight.specs.declared.machine.Control.{Control}
-use Rattle.flight.specs.declared.machine.Control.TheVariants.{Return, Eval}
+use Rattle.std.proofs.Common.{arith}
+use Rattle.flight.specs.Tables.{tables}
 use Rattle.flight.proofs.Step.{poised, begin_works, begin_too_long, begin_too_deep}
 use Rattle.flight.proofs.machine.Machine.begin.Goals as goal
 

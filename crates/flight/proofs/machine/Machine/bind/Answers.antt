@@ -1,6 +1,6 @@
-use Rattle.std.proofs.Common.{◌≡◌, ℕ, ◌+◌, ◌<◌, ◌≤◌, length, sym, refl, ap, ◌∙◌, subst, arith, rules}
-use Rattle.flight.specs.Tables.{Tables, tables}
-use Rattle.flight.specs.Sound.{Leads, bind_act}
+use Rattle.std.proofs.Common.{◌≡◌, ℕ, ◌+◌, ◌<◌, length, ap, arith, rules}
+use Rattle.flight.specs.Tables.{tables}
+use Rattle.flight.specs.Sound.{bind_act}
 use Rattle.flight.specs.declared.machine.Control.TheVariants.{Eval}
 use Rattle.flight.proofs.Leads.{leads_at, bind_leads, bind_full}
 use Rattle.flight.proofs.machine.Machine.bind.Goals as goal

@@ -1,5 +1,5 @@
-use Rattle.std.proofs.Common.{◌≡◌, ℕ, ◌+◌, ◌<◌, ◌≤◌, length, get_or, sym, refl, ap, ◌∙◌, subst, arith, rules}
-use Rattle.flight.specs.Tables.{Tables, tables}
+use Rattle.std.proofs.Common.{◌≡◌, ◌<◌, length, arith, rules}
+use Rattle.flight.specs.Tables.{tables}
 use Rattle.flight.proofs.Calling.{call_start, call_step, call_full, call_done, kid_there, calling_at}
 use Rattle.flight.proofs.machine.Machine.call.Goals as goal
 

@@ -1,10 +1,7 @@
-use Rattle.std.proofs.Common.{◌≡◌, ℕ, suc, ◌+◌, ◌-◌, ◌<◌, ◌≤◌, min, List, [], ◌∷◌, ◌++◌, length, get_or, take, vec_items, sym, refl, ap, ◌∙◌, subst, ap₂, arith, rules}
-use Rattle.std.proofs.lemmas.List.{get_or_read, length_push}
-use Rattle.flight.specs.Tables.{Tables, tables, ticked, no_frame, valued}
-use Rattle.flight.specs.Sound.{Leads, Act, Steps}
+use Rattle.std.proofs.Common.{◌<◌, length, ap, ◌∙◌, rules}
+use Rattle.flight.specs.Tables.{Tables, tables, valued}
 use Rattle.flight.specs.declared.machine.Part.TheVariants.{Num}
-use Rattle.flight.specs.declared.machine.Control.{Control}
-use Rattle.flight.specs.declared.machine.Control.TheVariants.{Return, Eval}
+use Rattle.flight.specs.declared.machine.Control.TheVariants.{Return}
 use Rattle.flight.proofs.Step.{draw_none, draw_some, steps_at}
 use Rattle.flight.proofs.machine.Machine.draw.Goals as goal
 

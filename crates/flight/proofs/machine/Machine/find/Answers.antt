@@ -1,9 +1,9 @@
-use Rattle.std.proofs.Common.{◌≡◌, ℕ, ◌+◌, ◌-◌, ◌<◌, ◌≤◌, length, get_or, vec_items, sym, refl, ap, ◌∙◌, subst, arith, rules}
+use Rattle.std.proofs.Common.{◌≡◌, ℕ, ◌-◌, ◌<◌, ◌≤◌, length, get_or, sym, ap, ◌∙◌, subst, rules}
 use Rattle.std.proofs.lemmas.List.{get_or_read}
 use Rattle.evaluation.specs.Flight.{at}
 use Rattle.evaluation.specs.Flight as byname
 use Rattle.flight.specs.Nodes.{Runner}
-use Rattle.flight.specs.Tables.{Tables, tables, no_binding, size_at}
+use Rattle.flight.specs.Tables.{tables, no_binding, size_at}
 use Rattle.flight.specs.Means.{scope_at}
 use Rattle.flight.specs.declared.machine.Binding.{Binding}
 use Rattle.flight.proofs.Find.{further, here}

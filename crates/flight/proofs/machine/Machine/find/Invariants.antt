@@ -1,4 +1,4 @@
-use Rattle.std.proofs.Common.{◌≡◌, ℕ, ◌<◌, ◌≤◌, length}
+use Rattle.std.proofs.Common.{◌≡◌, ◌<◌, ◌≤◌, length}
 use Rattle.evaluation.specs.Flight.{at}
 use Rattle.evaluation.specs.Flight.{Limits, kept, v_unit}
 use Rattle.flight.specs.Nodes.{Runner}

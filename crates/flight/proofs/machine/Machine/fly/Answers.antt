@@ -1,4 +1,4 @@
-use Rattle.std.proofs.Common.{◌≡◌, sym, refl, ap, ◌∙◌, subst, arith}
+use Rattle.std.proofs.Common.{sym, refl, arith}
 use Rattle.flight.specs.Tables.{tables}
 use Rattle.flight.proofs.Fly.{fly_start, fly_again, fly_done, moves}
 use Rattle.flight.proofs.machine.Machine.fly.Goals as goal

@@ -1,11 +1,8 @@
-use Rattle.std.proofs.Common.{◌≡◌, ℕ, suc, ◌+◌, ◌-◌, ◌<◌, ◌≤◌, min, List, [], ◌∷◌, ◌++◌, length, get_or, take, vec_items, sym, refl, ap, ◌∙◌, subst, ap₂, arith, rules}
-use Rattle.std.proofs.lemmas.List.{get_or_read, length_push, take_more, take_all}
-use Rattle.flight.specs.Tables.{Tables, tables, ticked, no_frame}
-use Rattle.flight.specs.Sound.{Leads, Act, Steps}
+use Rattle.std.proofs.Common.{◌≡◌, ℕ, ◌+◌, ◌-◌, List, [], ◌∷◌, ◌++◌, length, get_or, take, vec_items, sym, ◌∙◌, ap₂, arith, rules}
+use Rattle.std.proofs.lemmas.List.{get_or_read, take_more, take_all}
+use Rattle.flight.specs.Tables.{tables, no_frame}
 use Rattle.flight.specs.declared.machine.Frame.{Frame}
-use Rattle.flight.specs.declared.machine.Control.{Control}
-use Rattle.flight.specs.declared.machine.Control.TheVariants.{Return, Eval}
-use Rattle.flight.proofs.Step.{given, give_works, popped}
+use Rattle.flight.proofs.Step.{given, give_works}
 use Rattle.flight.proofs.machine.Machine.give.Goals as goal
 
 last_off : {X : Type 0} (xs : List X) (n : ℕ) (d : X) → n + 1 ≡ length xs → xs ≡ take n xs ++ (get_or xs n d ∷ [])

@@ -1,14 +1,7 @@
-use Rattle.std.proofs.Common.{◌≡◌, ℕ, suc, ◌+◌, ◌<◌, ◌≤◌, min, [], ◌∷◌, ◌++◌, length, get_or, sym, refl, ap, ◌∙◌, subst, ap₂, arith, rules}
-use Rattle.std.proofs.lemmas.List.{get_or_read, length_push}
-use Rattle.flight.specs.Tables.{Tables, tables, opened, new_binding, size_at}
-use Rattle.flight.specs.Sound.{Leads, Act}
-use Rattle.flight.specs.Calling.{join_act}
-use Rattle.plan.specs.declared.Node.{Node}
-use Rattle.plan.specs.declared.Node.TheVariants.{Unit as k_unit, Take, Split, Left, Right, Case, Pair, Add, Less}
-use Rattle.flight.specs.declared.machine.Part.TheVariants.{Nothing}
-use Rattle.flight.specs.declared.machine.What.TheVariants.{Kept}
-use Rattle.flight.specs.declared.machine.Control.{Control}
-use Rattle.flight.specs.declared.machine.Control.TheVariants.{Return, Eval}
+use Rattle.std.proofs.Common.{ℕ, ◌+◌, min, ap, ◌∙◌, ap₂, arith}
+use Rattle.flight.specs.Tables.{tables}
+use Rattle.plan.specs.declared.Node.TheVariants.{Pair, Add, Less}
+use Rattle.flight.specs.declared.machine.Control.TheVariants.{Return}
 use Rattle.flight.proofs.Leads.{leads_at}
 use Rattle.flight.proofs.Giving.{join_pair, join_add, join_less, join_more, join_rest, join_as}
 use Rattle.flight.proofs.machine.Machine.join.Goals as goal

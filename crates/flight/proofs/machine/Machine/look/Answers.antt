@@ -1,6 +1,6 @@
-use Rattle.std.proofs.Common.{◌≡◌, ℕ, ◌+◌, ◌<◌, ◌≤◌, length, get_or, sym, refl, ap, ◌∙◌, subst, arith, rules}
+use Rattle.std.proofs.Common.{◌≡◌, ◌<◌, length, get_or, refl, arith, rules}
 use Rattle.std.proofs.lemmas.List.{get_or_read}
-use Rattle.flight.specs.Tables.{Tables, tables, no_binding}
+use Rattle.flight.specs.Tables.{tables, no_binding}
 use Rattle.flight.proofs.Leads.{leads_at, name_full, name_later, name_kept, name_store}
 use Rattle.flight.proofs.machine.Machine.look.Goals as goal
 

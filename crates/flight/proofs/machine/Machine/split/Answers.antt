@@ -1,14 +1,9 @@
-use Rattle.std.proofs.Common.{◌≡◌, ℕ, suc, ◌+◌, ◌<◌, ◌≤◌, min, [], ◌∷◌, ◌++◌, length, get_or, sym, refl, ap, ◌∙◌, subst, ap₂, arith, rules}
-use Rattle.std.proofs.lemmas.List.{get_or_read, length_push}
-use Rattle.flight.specs.Tables.{Tables, tables, opened, new_binding, size_at}
+use Rattle.std.proofs.Common.{◌≡◌, ℕ, ◌+◌, ◌<◌, length, sym, refl, ap, ◌∙◌, subst, ap₂, arith, rules}
+use Rattle.std.proofs.lemmas.List.{length_push}
+use Rattle.flight.specs.Tables.{Tables, tables, opened}
 use Rattle.flight.specs.Sound.{Leads, Act}
-use Rattle.flight.specs.Calling.{join_act}
-use Rattle.plan.specs.declared.Node.{Node}
-use Rattle.plan.specs.declared.Node.TheVariants.{Unit as k_unit, Take, Split, Left, Right, Case, Pair, Add, Less}
-use Rattle.flight.specs.declared.machine.Part.TheVariants.{Nothing}
 use Rattle.flight.specs.declared.machine.What.TheVariants.{Kept}
-use Rattle.flight.specs.declared.machine.Control.{Control}
-use Rattle.flight.specs.declared.machine.Control.TheVariants.{Return, Eval}
+use Rattle.flight.specs.declared.machine.Control.TheVariants.{Eval}
 use Rattle.flight.proofs.Leads.{leads_at}
 use Rattle.flight.proofs.Keeps.{size_low, sound_opened}
 use Rattle.flight.proofs.Giving.{split_none, split_half, split_both}

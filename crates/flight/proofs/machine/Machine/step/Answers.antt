@@ -1,5 +1,4 @@
 use Rattle.flight.specs.Tables.{tables}
-use Rattle.flight.specs.declared.machine.Control.TheVariants.{Eval, Return}
 use Rattle.flight.proofs.Step.{steps_from}
 use Rattle.flight.proofs.machine.Machine.step.Goals as goal
 

@@ -1,6 +1,6 @@
-use Rattle.std.proofs.Common.{◌≡◌, length, get_or, sym, refl, ap, ◌∙◌, subst}
+use Rattle.std.proofs.Common.{ap}
 use Rattle.flight.specs.Nodes.{kind_at}
-use Rattle.flight.specs.Tables.{Tables, tables}
+use Rattle.flight.specs.Tables.{tables}
 use Rattle.plan.specs.declared.Node.TheVariants.{Name, Let, Call}
 use Rattle.flight.specs.declared.machine.Control.TheVariants.{Return}
 use Rattle.flight.proofs.Leads.{leads_at}

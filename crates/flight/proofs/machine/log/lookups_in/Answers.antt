@@ -1,9 +1,8 @@
-use Rattle.std.proofs.Common.{◌≡◌, ℕ, ◌+◌, ◌<◌, ◌≤◌, List, map, length, get_or, take, sym, refl, ap, ◌∙◌, subst, arith, rules}
-use Rattle.std.proofs.lemmas.List.{get_or_read, take_all}
+use Rattle.std.proofs.Common.{ℕ, ◌+◌, List, map, sym, ap, ◌∙◌, arith}
+use Rattle.std.proofs.lemmas.List.{take_all}
 use Rattle.evaluation.specs.Flight.{lookups}
 use Rattle.flight.specs.declared.machine.Entry.{Entry}
 use Rattle.flight.specs.Means.{entry_of}
-use Rattle.flight.specs.Tables.{Made}
 use Rattle.flight.proofs.Counting.{one_more}
 use Rattle.flight.proofs.machine.log.lookups_in.Goals as goal
 

@@ -1,4 +1,4 @@
-use Rattle.std.proofs.Common.{◌∙◌, arith, rules}
+use Rattle.std.proofs.Common.{◌∙◌}
 use Rattle.grader.proofs.Merging.{top_grade}
 use Rattle.grader.proofs.contexts.Contexts.grade.Goals as goal
 

@@ -1,4 +1,4 @@
-use Rattle.std.proofs.Common.{◌+◌, ◌-◌, ◌≤◌, arith, rules}
+use Rattle.std.proofs.Common.{◌-◌, arith}
 use Rattle.grader.proofs.Merging.{merged_at}
 use Rattle.grader.proofs.contexts.Contexts.join_top.Goals as goal
 

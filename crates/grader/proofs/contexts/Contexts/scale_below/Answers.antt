@@ -1,4 +1,4 @@
-use Rattle.std.proofs.Common.{◌+◌, ◌-◌, ◌≤◌, map, refl, arith, rules}
+use Rattle.std.proofs.Common.{◌-◌, refl, arith, rules}
 use lib.ListN.{length-map}
 use Rattle.std.proofs.lemmas.Slice.{overwrites}
 use Rattle.scales.specs.Rows.{row_times}

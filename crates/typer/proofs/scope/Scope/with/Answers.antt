@@ -1,4 +1,4 @@
-use Rattle.std.proofs.Common.{◌≡◌, ◌<◌, length, refl, arith, rules}
+use Rattle.std.proofs.Common.{◌≡◌, length, refl, arith, rules}
 use Rattle.typer.proofs.Scopes.{down_with}
 use Rattle.typer.proofs.scope.Scope.with.Goals as goal
 

@@ -1,7 +1,7 @@
-use Rattle.std.proofs.Common.{◌≡◌, ℕ, vec_len, codes, sym, refl, ap, ◌∙◌, subst, arith, rules}
+use Rattle.std.proofs.Common.{◌≡◌, ℕ, vec_len, codes, refl, subst, arith, rules}
 use Rattle.std.specs.Fmt.{HasWritten}
 use Rattle.std.proofs.Output.{has_written_append}
-use Rattle.listing.specs.Listings.{line_at, line_text, lines_text}
+use Rattle.listing.specs.Listings.{line_text, lines_text}
 use Rattle.listing.proofs.Texts.{put_no_line, put_line}
 use Rattle.listing.proofs.table.text.ListingDisplay.fmt.Goals as goal
 
