@@ -18,7 +18,7 @@ use Rattle.grading.proofs.Binders.{needs_length}
 use Rattle.grading.proofs.Numbers.{inner_counted, from_0_length}
 use Rattle.grading.proofs.Standing.{legs_counted}
 use Rattle.grader.specs.Walk.{Known, ParamsIn, param_grade, put, LegsReady}
-use Rattle.grader.proofs.Merging.{getD_from_0}
+use Rattle.grader.proofs.Merging.{get_or_from_0}
 use Rattle.grader.proofs.Puts.{put_more, put_below, put_here, put_long}
 use Rattle.grader.proofs.Closing.{put_none, put_one}
 
@@ -177,7 +177,7 @@ module _ {G : Type 0} (o : Ops G) (ns : List Row) (gs : List FlatLeg) (start : L
           let n = new_long in
           let own : get_or new j o.zero ≡ param_needs o Γ (leg_in ns g) j =
           get_or_append_left (from_0 (arity (leg_in ns g)) (param_needs o Γ (leg_in ns g))) (inner o Γ (leg_in ns g).body (arity (leg_in ns g))) o.zero j (let e = from_0_length (arity (leg_in ns g)) (param_needs o Γ (leg_in ns g)) in omega arith)
-          ∙ getD_from_0 (arity (leg_in ns g)) (param_needs o Γ (leg_in ns g)) j o.zero (omega arith) in
+          ∙ get_or_from_0 (arity (leg_in ns g)) (param_needs o Γ (leg_in ns g)) j o.zero (omega arith) in
           ap (λ m. at_place (put g.binder.index new answers) (get_or gs m no_leg) j) l_is ∙ put_here g.binder.index j new answers o.zero (omega arith) room_for ∙ own ∙ sym (own_same j)
           ∙ ap (λ m. grades_of m j) (sym l_is)
     ]

@@ -7,7 +7,7 @@ use borrow.Rule.Slice.PartMut.{put_mid}
 use Rattle.std.proofs.lemmas.Slice.{take-put_mid}
 use Rattle.scales.specs.Laws.{Ops}
 use Rattle.scales.specs.Rows.{zipInto}
-use Rattle.scales.proofs.RowLists.{length_zip, get_d_zip}
+use Rattle.scales.proofs.RowLists.{length_zip, get_or_zip}
 use Rattle.grading.specs.Grading.{one_of}
 use Rattle.grading.specs.Least.{from_0}
 use Rattle.grader.specs.Stack.{Folded}
@@ -42,7 +42,7 @@ module _ {G : Type 0} where
             get_or_append_left (h ++ (a ++ b)) rest d (length h + j) (omega arith) ∙ get_or-append-add h (a ++ b) j d ∙ get_or_append_left a b d j (omega arith) in
             let y : get_or before (length h + j + n) d ≡ get_or b j d =
             get_or_append_left (h ++ (a ++ b)) rest d (length h + j + n) (omega arith) ∙ ap (λ i. get_or (h ++ (a ++ b)) i d) far ∙ get_or-append-add h (a ++ b) (length a + j) d ∙ get_or-append-add a b j d in
-            ap (λ i. get_or after i d) k_is ∙ m.sums j d (omega arith) ∙ ap₂ f x y ∙ sym (get_d_zip f a b j d (omega arith) (omega arith))
+            ap (λ i. get_or after i d) k_is ∙ m.sums j d (omega arith) ∙ ap₂ f x y ∙ sym (get_or_zip f a b j d (omega arith) (omega arith))
             ∙ sym (get_or-append-add h (zipInto f a b) j d) ∙ ap (λ i. get_or (h ++ zipInto f a b) i d) (sym k_is)
       ])
 
@@ -90,14 +90,14 @@ module _ {G : Type 0} where
   length_from_0 zero γ = refl
   length_from_0 (suc n) γ = ap suc (length_from_0 n (λ l. γ (suc l)))
 
-  pub getD_from_0 : (n : ℕ) (γ : ℕ → G) (k : ℕ) (d : G) → k < n → get_or (from_0 n γ) k d ≡ γ k
-  getD_from_0 zero γ k d lt = absurd (omega arith)
-  getD_from_0 (suc n) γ zero d lt = refl
-  getD_from_0 (suc n) γ (suc k) d lt = getD_from_0 n (λ l. γ (suc l)) k d (omega arith)
+  pub get_or_from_0 : (n : ℕ) (γ : ℕ → G) (k : ℕ) (d : G) → k < n → get_or (from_0 n γ) k d ≡ γ k
+  get_or_from_0 zero γ k d lt = absurd (omega arith)
+  get_or_from_0 (suc n) γ zero d lt = refl
+  get_or_from_0 (suc n) γ (suc k) d lt = get_or_from_0 n (λ l. γ (suc l)) k d (omega arith)
 
   -- a list is what a function gives
   pub is_from_0 : (xs : List G) (n : ℕ) (γ : ℕ → G) → length xs ≡ n → ((k : ℕ) (d : G) → k < n → get_or xs k d ≡ γ k) → xs ≡ from_0 n γ
-  is_from_0 xs n γ e h = same_lists xs (from_0 n γ) (e ∙ sym (length_from_0 n γ)) (λ k d lt. h k d (omega arith) ∙ sym (getD_from_0 n γ k d (omega arith)))
+  is_from_0 xs n γ e h = same_lists xs (from_0 n γ) (e ∙ sym (length_from_0 n γ)) (λ k d lt. h k d (omega arith) ∙ sym (get_or_from_0 n γ k d (omega arith)))
 
   pub name_row : (o : Ops G) (n j : ℕ) (x : G) → j < n → x ≡ o.one → set (replicate n o.zero) j x ≡ from_0 n (one_of o j)
   name_row o n j x lt x_is =

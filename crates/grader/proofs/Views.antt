@@ -11,7 +11,7 @@ use Rattle.plan.specs.Limits.{max_levels}
 use Rattle.plan.specs.Trees.{Term, t_unit, t_number, t_name, t_let, t_take, t_pair, t_split, t_left, t_right, t_case, t_call, t_add, t_less, Terms, t_none, t_more, how_many, the_leg, head, arguments, kids}
 use Rattle.grading.specs.Least.{need, needs, inner, inner_of_each, from_0}
 use Rattle.grader.specs.Walk.{Fit, FitEach, HeadFit, Callable, kid_width, node_row, own_grades, call_row, param_grade}
-use Rattle.grader.proofs.Merging.{getD_from_0, length_from_0}
+use Rattle.grader.proofs.Merging.{get_or_from_0, length_from_0}
 
 module _ {G : Type 0} where
   pub zip_row : (f : G → G → G) (n m : ℕ) (γ δ : ℕ → G) → n ≤ m → from_0 n (λ l. f (γ l) (δ l)) ≡ zipInto f (from_0 n γ) (from_0 m δ)
@@ -46,7 +46,7 @@ module _ {G : Type 0} (o : Ops G) (Γ : List (ℕ → G)) where
   let_row : (n : ℕ) (γ δ : ℕ → G) → from_0 n (λ l. o.plus (o.times (δ n) (γ l)) (δ l)) ≡ row_plus o (row_times o (get_or (from_0 (suc n) δ) n o.zero) (from_0 n γ)) (from_0 (suc n) δ)
   let_row n γ δ =
       plus_row n (suc n) (λ l. o.times (δ n) (γ l)) δ (omega arith) ∙ ap (λ u. row_plus o u (from_0 (suc n) δ)) (map_row (o.times (δ n)) n γ)
-      ∙ ap (λ x. row_plus o (row_times o x (from_0 n γ)) (from_0 (suc n) δ)) (sym (getD_from_0 (suc n) δ n o.zero (omega arith)))
+      ∙ ap (λ x. row_plus o (row_times o x (from_0 n γ)) (from_0 (suc n) δ)) (sym (get_or_from_0 (suc n) δ n o.zero (omega arith)))
 
   call_view : (ts : Terms) (r : ℕ → G) (j n k : ℕ) (l : LegId') (c : ℕ) → from_0 n (needs o Γ ts r j n) ≡ call_row o r j n (kid_rows n (Call l c) k (arguments ts))
   call_view t_none r j n k l c = same_row o.zero n
@@ -75,7 +75,7 @@ module _ {G : Type 0} (o : Ops G) (Γ : List (ℕ → G)) where
   row_view n (t_less a b) = plus_row n n (need o Γ a n) (need o Γ b n) (omega arith)
 
   read : (n i : ℕ) (γ : ℕ → G) → i < n → γ i ≡ get_or (from_0 n γ) i o.zero
-  read n i γ lt = sym (getD_from_0 n γ i o.zero lt)
+  read n i γ lt = sym (get_or_from_0 n γ i o.zero lt)
 
   each_view : (ts : Terms) (n k : ℕ) (l : LegId') (c : ℕ) → inner_of_each o Γ ts n ≡ each_inner n (Call l c) k (arguments ts)
   each_view t_none n k l c = refl

@@ -2,7 +2,7 @@
 use Rattle.std.specs.Prelude.{ℕ, suc}
 use Rattle.plan.specs.Trees.{Term, t_unit, t_number, t_name, t_let, t_take, t_pair, t_split, t_left, t_right, t_case, t_call, t_add, t_less, Terms, t_none, t_more}
 
--- `Every-node P t n`: with n levels in scope at t, P holds of each node of t and the number of levels in scope there.
+-- `EveryNode P t n`: with n levels in scope at t, P holds of each node of t and the number of levels in scope there.
 abbrev mutual
   pub EveryNode : (Term → ℕ → Type 0) → Term → ℕ → Type 0
   EveryNode P t_unit n = P t_unit n

@@ -1,4 +1,4 @@
--- Rows as lists: what `zipInto` and `row-leq` are at each place.
+-- Rows as lists: what `zipInto` and `row_leq` are at each place.
 use Rattle.std.proofs.Common.{◌≡◌, ℕ, zero, suc, ◌<◌, ◌≤◌, min, true, false, List, [], ◌∷◌, map, length, get_or, sym, refl, ap, ◌∙◌, ap₂, inl, inr, arith}
 use Rattle.std.proofs.lemmas.List.{same_lists}
 use Rattle.std.proofs.lemmas.Bool.{and_parts, and_from, and_left, and_right, both_ways, cases_lt}
@@ -10,17 +10,17 @@ length_zip f [] ys = refl
 length_zip f (x ∷ xs) [] = refl
 length_zip f (x ∷ xs) (y ∷ ys) = ap suc (length_zip f xs ys)
 
-pub get_d_zip : {X : Type 0} (f : X → X → X) (xs ys : List X) (k : ℕ) (d : X) → k < length xs → k < length ys → get_or (zipInto f xs ys) k d ≡ f (get_or xs k d) (get_or ys k d)
-get_d_zip f [] ys k d h l = absurd (omega arith)
-get_d_zip f (x ∷ xs) [] k d h l = absurd (omega arith)
-get_d_zip f (x ∷ xs) (y ∷ ys) zero d h l = refl
-get_d_zip f (x ∷ xs) (y ∷ ys) (suc k) d h l = get_d_zip f xs ys k d (omega arith) (omega arith)
+pub get_or_zip : {X : Type 0} (f : X → X → X) (xs ys : List X) (k : ℕ) (d : X) → k < length xs → k < length ys → get_or (zipInto f xs ys) k d ≡ f (get_or xs k d) (get_or ys k d)
+get_or_zip f [] ys k d h l = absurd (omega arith)
+get_or_zip f (x ∷ xs) [] k d h l = absurd (omega arith)
+get_or_zip f (x ∷ xs) (y ∷ ys) zero d h l = refl
+get_or_zip f (x ∷ xs) (y ∷ ys) (suc k) d h l = get_or_zip f xs ys k d (omega arith) (omega arith)
 
-pub getD_zip_past : {X : Type 0} (f : X → X → X) (xs ys : List X) (k : ℕ) (d : X) → length ys ≤ k → get_or (zipInto f xs ys) k d ≡ get_or xs k d
-getD_zip_past f [] ys k d h = refl
-getD_zip_past f (x ∷ xs) [] k d h = refl
-getD_zip_past f (x ∷ xs) (y ∷ ys) zero d h = absurd (omega arith)
-getD_zip_past f (x ∷ xs) (y ∷ ys) (suc k) d h = getD_zip_past f xs ys k d (omega arith)
+pub get_or_zip_past : {X : Type 0} (f : X → X → X) (xs ys : List X) (k : ℕ) (d : X) → length ys ≤ k → get_or (zipInto f xs ys) k d ≡ get_or xs k d
+get_or_zip_past f [] ys k d h = refl
+get_or_zip_past f (x ∷ xs) [] k d h = refl
+get_or_zip_past f (x ∷ xs) (y ∷ ys) zero d h = absurd (omega arith)
+get_or_zip_past f (x ∷ xs) (y ∷ ys) (suc k) d h = get_or_zip_past f xs ys k d (omega arith)
 
 -- a loop over the places that both rows have leaves `zipInto`
 pub zip_places : {X : Type 0} (f : X → X → X) (xs ys zs : List X) (n : ℕ) → n ≡ min (length xs) (length ys) → length zs ≡ length xs
@@ -30,8 +30,8 @@ pub zip_places : {X : Type 0} (f : X → X → X) (xs ys zs : List X) (n : ℕ) 
 zip_places f xs ys zs n m e at past =
     same_lists zs (zipInto f xs ys) (e ∙ sym (length_zip f xs ys))
     (λ k d lt. elim (cases_lt k n) [
-      | inl h ↦ at k d h ∙ sym (get_d_zip f xs ys k d (omega arith) (omega arith))
-      | inr h ↦ past k d h ∙ sym (getD_zip_past f xs ys k d (omega arith))
+      | inl h ↦ at k d h ∙ sym (get_or_zip f xs ys k d (omega arith) (omega arith))
+      | inr h ↦ past k d h ∙ sym (get_or_zip_past f xs ys k d (omega arith))
     ])
 
 length-map : {X : Type 0} (f : X → X) (xs : List X) → length (map f xs) ≡ length xs
