@@ -17,6 +17,9 @@ countdown_below (suc n) (suc i) = let h = countdown_below n i in omega arith
 pub counter_past : (counts : List ℕ) (k : ℕ) → length counts ≤ k → counter_readings counts k ≡ []
 counter_past counts k h = ap countdown (get_or_past counts k 0 h)
 
+pub counter_eight : (counts : List ℕ) (k : ℕ) → length counts ≡ 8 → 8 ≤ k → counter_readings counts k ≡ []
+counter_eight counts k e h = counter_past counts k (omega arith)
+
 pub counter_few : (counts : List ℕ) (k : ℕ) → slice_index counts k ≤ 9999 → length (counter_readings counts k) ≤ 9999
 counter_few counts k h = omega (arith, length_countdown (slice_index counts k))
 

@@ -2,8 +2,7 @@
 ghost use Rattle.std.specs.Prelude.{◌≡◌, ℕ, []};
 ghost use Rattle.bay.specs.Readings.{countdown, counter_readings, Few};
 ghost use Rattle.bay.specs.Filling.{Filling};
-ghost use Rattle.bay.specs.Countdowns.{counter_few, counter_past, counter_words};
-ghost use Rattle.std.proofs.Common.{arith};
+ghost use Rattle.bay.specs.Countdowns.{counter_few, counter_eight, counter_words};
 
 use crate::{Bay, BayFault, MOST_READINGS, STORES};
 
@@ -18,7 +17,7 @@ impl Bay for CounterBay {
 
     ghost few = { λ b k. counter_few b.counts k (b.few.1 k) };
 
-    ghost eight = { λ b k h. counter_past b.counts k (omega (arith, b.few.0)) };
+    ghost eight = { λ b k h. counter_eight b.counts k b.few.0 h };
 
     ghost words = { λ b k. counter_words b.counts k (b.few.1 k) };
 
