@@ -3,6 +3,7 @@
 
 #[cfg(test)]
 mod tests {
+    use listing::table::make::list_plan;
     use std::alloc::Global;
     use std::process::Abort;
     use std::test::Fail;
@@ -39,6 +40,34 @@ mod tests {
                 Ok(())
             }
             Err(_) => Err(Fail::new("refused")),
+        }
+    }
+
+    #[test]
+    fn listing_of_the_worked_plan(rt: HostRuntime) -> Result<(), Fail> {
+        let heap = rt.alloc();
+        let Ok(listing) = list_plan(heap, &DOUBLE) else {
+            return Err(Fail::new("refused"));
+        };
+        let text = format!(in heap; "{listing}")?;
+        assert_eq!(rt;
+            text.as_str(),
+            "plan\n0 param many 2..2 {2}\n1 let many 2..2 {2}\n"
+        );
+        Ok(())
+    }
+
+    #[test]
+    fn listing_of_a_damaged_plan(rt: HostRuntime) -> Result<(), Fail> {
+        let bytes = [4, 1, 1, 1, 1, 0, 5, 3, 2, 0x0b, 0x12, 1, 0x12, 2];
+        match list_plan(rt.alloc(), &bytes) {
+            Ok(_) => Err(Fail::new("accepted")),
+            Err(fault) => {
+                let told = fault.refusal();
+                assert_eq!(rt; told.number, 7);
+                assert_eq!(rt; told.place, 4);
+                Ok(())
+            }
         }
     }
 

@@ -1,5 +1,5 @@
 // The listing of a plan, from its bytes.
-ghost use Rattle.std.specs.Prelude.{◌≡◌, ℕ, IfOk, vec_len};
+ghost use Rattle.std.specs.Prelude.{◌≡◌, ℕ, IfOk, vec_len, replicate};
 ghost use Rattle.listing.specs.Listings.{ColumnAnswer, ListingAnswer};
 
 use super::Listing;
@@ -16,7 +16,8 @@ use typer::typed::read_typed;
 
 // A list of so many places, each with no use.
 fn places<S: Scale>(heap: Global, count: usize) -> Result<Vec<S>, AllocError>
-    ensures { IfOk result (λ list. vec_len list ≡ count) }
+    ensures long { IfOk result (λ list. vec_len list ≡ count) }
+    ensures unused { IfOk result (λ list. list.items ≡ replicate count S.ops.zero) }
 {
     let mut list: Vec<S> = Vec::with_capacity(heap, count)?;
     for _ in 0..count {
