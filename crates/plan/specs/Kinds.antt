@@ -1,5 +1,5 @@
 -- The thirteen kinds of node: the field that each may have, how many kids and how many binders. Assumes nothing.
-use Rattle.std.specs.Prelude.{ℕ, ◌/◌, ◌%◌, cond, List, [], ◌∷◌, Some, None, Option, ◌==◌, nat_le, slice_index_or}
+use Rattle.std.specs.Prelude.{◌≡◌, ℕ, ◌/◌, ◌%◌, ◌<◌, cond, List, [], ◌∷◌, Some, None, Option, Ok, Err, Result, ◌==◌, nat_le, slice_index_or}
 use Rattle.plan.specs.declared.Node.{Node}
 use Rattle.plan.specs.declared.Node.TheVariants.{Unit as Unit', Number, Name, Let, Take, Pair, Split, Left, Right, Case, Call, Add, Less}
 use Rattle.plan.specs.declared.kinds.Field.{Field}
@@ -7,6 +7,9 @@ use Rattle.plan.specs.declared.kinds.Field.TheVariants.{Absent, Byte, Number as 
 use Rattle.plan.specs.declared.kinds.Kids.{Kids}
 use Rattle.plan.specs.declared.kinds.Kids.TheVariants.{Fixed, Arguments}
 use Rattle.plan.specs.declared.kinds.Kind.{Kind}
+use Rattle.plan.specs.declared.kinds.NodeKind.{NodeKind}
+use Rattle.plan.specs.declared.kinds.NodeKind.TheVariants.{Unit as KUnit, Number as KNumber, Name as KName, Let as KLet, Take as KTake, Pair as KPair, Split as KSplit, Left as KLeft, Right as KRight, Case as KCase, Call as KCall, Add as KAdd, Less as KLess}
+use Rattle.plan.specs.declared.kinds.UnknownKind.{UnknownKind}
 
 abbrev kind : Field → Kids → ℕ → Kind
 kind f c b = record { field = f; kids = c; binders = b }
@@ -31,6 +34,27 @@ kinds =
 
 abbrev pub rule : ℕ → Kind
 rule k = slice_index_or kinds k (kind Absent (Fixed 0) 0)
+
+-- The number that stands for a kind in a node's first byte.
+abbrev pub number_of : NodeKind → ℕ
+number_of KUnit = 0
+number_of KNumber = 1
+number_of KName = 2
+number_of KLet = 3
+number_of KTake = 4
+number_of KPair = 5
+number_of KSplit = 6
+number_of KLeft = 7
+number_of KRight = 8
+number_of KCase = 9
+number_of KCall = 10
+number_of KAdd = 11
+number_of KLess = 12
+
+-- Each number below 13 is that of one kind, and no other number is.
+abbrev pub Numbered : ℕ → Result NodeKind UnknownKind → Type 0
+Numbered n (Ok k) = number_of k ≡ n
+Numbered n (Err e) = (12 < n) × (e.number ≡ n)
 
 abbrev pub kind_of : Node → ℕ
 kind_of Unit' = 0
@@ -80,3 +104,8 @@ announced bits k Word = cond (bits == 0) (Some (k, Absent)) (cond (bits == 2) (S
 
 abbrev pub shape_of : ℕ → Option (ℕ × Field)
 shape_of head = cond (nat_le (head % 16) 12) (announced (head / 16) (head % 16) (rule (head % 16)).field) None
+
+-- a shape with its kind's number for the kind
+abbrev pub by_number : Option (NodeKind × Field) → Option (ℕ × Field)
+by_number None = None
+by_number (Some (k, f)) = Some (number_of k, f)

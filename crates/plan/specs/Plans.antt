@@ -1,5 +1,5 @@
 -- The plan that the tables of a read plan stand for. Assumes nothing.
-use Rattle.std.specs.Prelude.{◌≡◌, List, [], ◌∷◌, ◌++◌, take, drop, vec_items}
+use Rattle.std.specs.Prelude.{◌≡◌, List, [], ◌∷◌, ◌++◌, drop, vec_items}
 use Rattle.plan.specs.declared.Plan.{Plan as FlatPlan}
 use Rattle.plan.specs.declared.Leg.{Leg as FlatLeg}
 use Rattle.plan.specs.declared.Row.{Row}
@@ -10,7 +10,7 @@ use Rattle.plan.specs.Written.{built_in, WellLaid}
 use Rattle.plan.specs.Table.{term_at, Spells, InOrder}
 
 abbrev pub params_of : FlatLeg → List TypeId
-params_of g = take g.count g.params
+params_of g = g.params.items
 
 -- The leg that a row of the table stands for.
 abbrev pub leg_in : List Row → FlatLeg → Leg

@@ -61,7 +61,7 @@ Spells ns = (i : ℕ) → i < length ns → ((row_at ns i).node ≡ head (term_a
 -- The bodies of the legs stand one behind the other from a place on, to the table's end.
 abbrev pub InOrder : ℕ → List Row → List FlatLeg → Type 0
 InOrder p ns [] = p ≡ length ns
-InOrder p ns (g ∷ gs) = (g.first ≡ p) × (p < length ns) × (g.count ≤ max_params) × InOrder (p + node_size (term_at ns p)) ns gs
+InOrder p ns (g ∷ gs) = (g.first ≡ p) × (p < length ns) × (length g.params.items ≤ max_params) × InOrder (p + node_size (term_at ns p)) ns gs
 
 abbrev pub is_one : Stack → Bool
 is_one none = false

@@ -1,13 +1,13 @@
 // Why a plan is refused.
 ghost use Rattle.std.specs.Prelude.{◌≡◌};
 ghost use Rattle.plan.specs.declared.faults.PlanFault.TheVariants.{Read, Typing, Memory};
-ghost use Rattle.plan.specs.Faults.{refused, from_reader, from_typer};
+ghost use Rattle.plan.specs.Faults.{refused, refused_by_reader, refused_by_typer};
 
 use refusal::{Layer, Refusal};
 use std::alloc::AllocError;
 
 // The reader's first fault, with its place in the bytes.
-#[derive(Clone, Copy, Drop)]
+#[derive(Clone, Copy, PartialEq, Eq, Debug, Drop)]
 pub enum ReadFault {
     Cut(usize),
     Bits(usize),
@@ -18,7 +18,7 @@ pub enum ReadFault {
 }
 
 // The typer's first fault, with its node, counted over all legs.
-#[derive(Clone, Copy, Drop)]
+#[derive(Clone, Copy, PartialEq, Eq, Debug, Drop)]
 pub enum TypeFault {
     Name(usize),
     Type(usize),
@@ -26,7 +26,7 @@ pub enum TypeFault {
 }
 
 // Why bytes give no plan. Want of memory says nothing about the plan.
-#[derive(Clone, Copy, Drop)]
+#[derive(Clone, Copy, PartialEq, Eq, Debug, Drop)]
 pub enum PlanFault {
     Read(ReadFault),
     Typing(TypeFault),
@@ -57,41 +57,51 @@ impl From<AllocError> for PlanFault {
     }
 }
 
-fn from_reader(number: u8, place: usize) -> Refusal
-    ensures { result ≡ from_reader number place }
-{
-    Refusal {
-        number,
-        layer: Layer::Reader,
-        place,
+// Each fault by its number, layer and place.
+impl From<ReadFault> for Refusal {
+    ghost from_gives = { λ e r. r ≡ refused_by_reader e };
+
+    fn from(e: ReadFault) -> Refusal {
+        let (number, place) = match e {
+            ReadFault::Cut(at) => (1, at),
+            ReadFault::Bits(at) => (2, at),
+            ReadFault::Limit(at) => (3, at),
+            ReadFault::Ref(at) => (4, at),
+            ReadFault::Shape(at) => (5, at),
+            ReadFault::Tail(at) => (6, at),
+        };
+        Refusal {
+            number,
+            layer: Layer::Reader,
+            place,
+        }
     }
 }
 
-fn from_typer(number: u8, place: usize) -> Refusal
-    ensures { result ≡ from_typer number place }
-{
-    Refusal {
-        number,
-        layer: Layer::Typer,
-        place,
+impl From<TypeFault> for Refusal {
+    ghost from_gives = { λ e r. r ≡ refused_by_typer e };
+
+    fn from(e: TypeFault) -> Refusal {
+        let (number, place) = match e {
+            TypeFault::Name(node) => (7, node),
+            TypeFault::Type(node) => (8, node),
+            TypeFault::Scope(node) => (9, node),
+        };
+        Refusal {
+            number,
+            layer: Layer::Typer,
+            place,
+        }
     }
 }
 
-impl PlanFault {
-    // The fault by its number, layer and place.
-    pub fn refusal(self) -> Refusal
-        ensures { result ≡ refused self }
-    {
-        match self {
-            PlanFault::Read(ReadFault::Cut(at)) => from_reader(1, at),
-            PlanFault::Read(ReadFault::Bits(at)) => from_reader(2, at),
-            PlanFault::Read(ReadFault::Limit(at)) => from_reader(3, at),
-            PlanFault::Read(ReadFault::Ref(at)) => from_reader(4, at),
-            PlanFault::Read(ReadFault::Shape(at)) => from_reader(5, at),
-            PlanFault::Read(ReadFault::Tail(at)) => from_reader(6, at),
-            PlanFault::Typing(TypeFault::Name(node)) => from_typer(7, node),
-            PlanFault::Typing(TypeFault::Type(node)) => from_typer(8, node),
-            PlanFault::Typing(TypeFault::Scope(node)) => from_typer(9, node),
+impl From<PlanFault> for Refusal {
+    ghost from_gives = { λ e r. r ≡ refused e };
+
+    fn from(e: PlanFault) -> Refusal {
+        match e {
+            PlanFault::Read(fault) => Refusal::from(fault),
+            PlanFault::Typing(fault) => Refusal::from(fault),
             PlanFault::Memory => Refusal {
                 number: 0,
                 layer: Layer::Memory,

@@ -1,25 +1,96 @@
 // The thirteen kinds of node.
 ghost use Rattle.std.specs.Prelude.{◌≡◌, ℕ, ◌<◌, ◌≤◌};
-ghost use Rattle.plan.specs.Kinds.{kind_of, arguments_of, kids_of, binders, shape_of};
+ghost use Rattle.plan.specs.Kinds.{kind_of, number_of, rule, Numbered, arguments_of, kids_of, binders, shape_of, by_number};
 
 use crate::Node;
 
 // What may stand between a node's first byte and the next node.
-#[derive(Clone, Copy, Drop)]
+#[derive(Clone, Copy, PartialEq, Eq, Debug, Drop)]
 pub enum Field {
     Absent,
     Byte,
     Number,
 }
 
-// How many kids a node has.
-#[derive(Clone, Copy, Drop)]
+// How many kids a node has. Not an `Option`: a call's count is no missing one, its leg says it.
+#[derive(Clone, Copy, PartialEq, Eq, Debug, Drop)]
 pub enum Kids {
     Fixed(u8),
     Arguments,
 }
 
-#[derive(Clone, Copy, Drop)]
+// A node's kind, in the order of the numbers that first bytes have for them.
+#[derive(Clone, Copy, PartialEq, Eq, Debug, Drop)]
+pub enum NodeKind {
+    Unit,
+    Number,
+    Name,
+    Let,
+    Take,
+    Pair,
+    Split,
+    Left,
+    Right,
+    Case,
+    Call,
+    Add,
+    Less,
+}
+
+// A number that no kind of node has.
+#[derive(Clone, Copy, PartialEq, Eq, Debug, Drop)]
+pub struct UnknownKind {
+    pub number: u8,
+}
+
+impl TryFrom<u8> for NodeKind {
+    type Error = UnknownKind;
+
+    ghost try_from_gives = { Numbered };
+
+    fn try_from(number: u8) -> Result<NodeKind, UnknownKind> {
+        match number {
+            0 => Ok(NodeKind::Unit),
+            1 => Ok(NodeKind::Number),
+            2 => Ok(NodeKind::Name),
+            3 => Ok(NodeKind::Let),
+            4 => Ok(NodeKind::Take),
+            5 => Ok(NodeKind::Pair),
+            6 => Ok(NodeKind::Split),
+            7 => Ok(NodeKind::Left),
+            8 => Ok(NodeKind::Right),
+            9 => Ok(NodeKind::Case),
+            10 => Ok(NodeKind::Call),
+            11 => Ok(NodeKind::Add),
+            12 => Ok(NodeKind::Less),
+            _ => Err(UnknownKind { number }),
+        }
+    }
+}
+
+impl From<Node> for NodeKind {
+    ghost from_gives = { λ node kind. number_of kind ≡ kind_of node };
+
+    fn from(node: Node) -> NodeKind {
+        match node {
+            Node::Unit => NodeKind::Unit,
+            Node::Number(_) => NodeKind::Number,
+            Node::Name(_) => NodeKind::Name,
+            Node::Let(_) => NodeKind::Let,
+            Node::Take(_) => NodeKind::Take,
+            Node::Pair => NodeKind::Pair,
+            Node::Split(_) => NodeKind::Split,
+            Node::Left(_) => NodeKind::Left,
+            Node::Right(_) => NodeKind::Right,
+            Node::Case(_) => NodeKind::Case,
+            Node::Call(_, _) => NodeKind::Call,
+            Node::Add => NodeKind::Add,
+            Node::Less => NodeKind::Less,
+        }
+    }
+}
+
+#[derive(Clone, Copy, PartialEq, Eq, Debug, Drop)]
 pub struct Kind {
     pub field: Field,
     pub kids: Kids,
@@ -95,25 +166,12 @@ pub const KINDS: [Kind; 13] = [
     },
 ];
 
-// The place of a node's kind in the table.
-fn kind_of(node: Node) -> usize
-    ensures is { result ≡ kind_of node }
-    ensures within { result < 13 }
-{
-    match node {
-        Node::Unit => 0,
-        Node::Number(_) => 1,
-        Node::Name(_) => 2,
-        Node::Let(_) => 3,
-        Node::Take(_) => 4,
-        Node::Pair => 5,
-        Node::Split(_) => 6,
-        Node::Left(_) => 7,
-        Node::Right(_) => 8,
-        Node::Case(_) => 9,
-        Node::Call(_, _) => 10,
-        Node::Add => 11,
-        Node::Less => 12,
+impl NodeKind {
+    // The kind's line of the table.
+    fn rule(self) -> Kind
+        ensures { result ≡ rule (number_of self) }
+    {
+        KINDS[self as usize]
     }
 }
 
@@ -131,9 +189,9 @@ fn arguments_of(node: Node) -> u8
 pub fn kids_of(node: Node) -> usize
     ensures { result ≡ kids_of node }
 {
-    match KINDS[kind_of(node)].kids {
-        Kids::Fixed(count) => count as usize,
-        Kids::Arguments => arguments_of(node) as usize,
+    match NodeKind::from(node).rule().kids {
+        Kids::Fixed(count) => usize::from(count),
+        Kids::Arguments => usize::from(arguments_of(node)),
     }
 }
 
@@ -142,18 +200,17 @@ pub fn binders_of(node: Node) -> u16
     ensures is { result ≡ binders node }
     ensures few { result ≤ 2 }
 {
-    KINDS[kind_of(node)].binders as u16
+    u16::from(NodeKind::from(node).rule().binders)
 }
 
 // The kind in a node's first byte and the field that it announces; none if it is no first byte of a node.
-pub fn shape_of(head: u8) -> Option<(u8, Field)>
-    ensures { result ≡ shape_of head }
+pub fn shape_of(head: u8) -> Option<(NodeKind, Field)>
+    ensures { by_number result ≡ shape_of head }
 {
-    let kind = head % 16;
-    if kind > 12 {
+    let Ok(kind) = NodeKind::try_from(head % 16) else {
         return None;
-    }
-    match (head / 16, KINDS[kind as usize].field) {
+    };
+    match (head / 16, kind.rule().field) {
         (0, _) => Some((kind, Field::Absent)),
         (1, Field::Byte) => Some((kind, Field::Byte)),
         (2, Field::Number) => Some((kind, Field::Number)),

@@ -1,37 +1,39 @@
 // Plans: their types, nodes and legs, as a table of nodes in prefix order; the trees that it stands for and the bytes that spell it; and why bytes are refused.
 #![tactic(auto)]
 
+use crate::limits::MAX_PARAMS;
+use arrayvec::ArrayVec;
+
 pub mod faults;
 pub mod kinds;
 pub mod limits;
-pub mod types;
 
 // The number of a type: 0 is unit, 1 number, 2 either(unit, unit), the plan's own follow from 3.
-#[derive(Clone, Copy, Drop)]
+#[derive(Clone, Copy, PartialEq, Eq, Default, Debug, Drop)]
 pub struct TypeId {
     pub index: u8,
 }
 
 // The number of a leg, in the order of the bytes.
-#[derive(Clone, Copy, Drop)]
+#[derive(Clone, Copy, PartialEq, Eq, Debug, Drop)]
 pub struct LegId {
     pub index: u8,
 }
 
 // A name in scope, counted from outside in, parameters first.
-#[derive(Clone, Copy, Drop)]
+#[derive(Clone, Copy, PartialEq, Eq, Debug, Drop)]
 pub struct Level {
     pub index: u8,
 }
 
 // A place that binds a name, counted through the whole plan.
-#[derive(Clone, Copy, Drop)]
+#[derive(Clone, Copy, PartialEq, Eq, Debug, Drop)]
 pub struct Binder {
     pub index: u16,
 }
 
 // What a type is made of; the parts of a pair and the sides of an either have lower numbers.
-#[derive(Clone, Copy, Drop)]
+#[derive(Clone, Copy, PartialEq, Eq, Debug, Drop)]
 pub enum Type {
     Unit,
     Number,
@@ -41,7 +43,7 @@ pub enum Type {
 
 // A node without its kids. Let and take bind one name, split and case the one given and the next;
 // a call has as many arguments as its leg has parameters.
-#[derive(Clone, Copy, Drop)]
+#[derive(Clone, Copy, PartialEq, Eq, Debug, Drop)]
 pub enum Node {
     Unit,
     Number(u32),
@@ -59,17 +61,17 @@ pub enum Node {
 }
 
 // A node in the table, and the place behind its last kid. Its first kid stands right behind it, each next kid at the end of the one before.
-#[derive(Clone, Copy, Drop)]
+// A table and no tree of boxes: memory is taken once for all nodes, and none when a plan is flown.
+#[derive(Clone, Copy, PartialEq, Eq, Debug, Drop)]
 pub struct Row {
     pub node: Node,
     pub end: u16,
 }
 
 // A leg: the types of its parameters and result, the place of its body, and the binder of its first parameter.
-#[derive(Clone, Copy, Drop)]
+#[derive(PartialEq, Eq, Debug, Drop)]
 pub struct Leg {
-    pub params: [TypeId; 8],
-    pub count: u8,
+    pub params: ArrayVec<TypeId, MAX_PARAMS>,
     pub result: TypeId,
     pub first: u16,
     pub binder: Binder,

@@ -7,7 +7,7 @@ pub const MAX_TYPES: usize = 32;
 
 pub const MAX_LEGS: u8 = 16;
 
-pub const MAX_PARAMS: u8 = 8;
+pub const MAX_PARAMS: usize = 8;
 
 pub const MAX_NODES: usize = 256;
 
