@@ -1,7 +1,8 @@
 -- Rows as lists: what `zipInto` and `row_leq` are at each place.
-use Rattle.std.proofs.Common.{◌≡◌, ℕ, zero, suc, ◌<◌, ◌≤◌, min, true, false, List, [], ◌∷◌, map, length, get_or, sym, refl, ap, ◌∙◌, ap₂, inl, inr, arith}
+use Rattle.std.proofs.Common.{◌≡◌, ℕ, zero, suc, ◌<◌, ◌≤◌, min, true, false, ◌&&◌, List, [], ◌∷◌, map, length, get_or, sym, refl, ap, ◌∙◌, ap₂, inl, inr, arith}
 use Rattle.std.proofs.lemmas.List.{same_lists}
 use Rattle.std.proofs.lemmas.Bool.{and_parts, and_from, and_left, and_right, both_ways, cases_lt}
+use Rattle.std.specs.List.{list_all, zip}
 use Rattle.scales.specs.Laws.{Ops}
 use Rattle.scales.specs.Rows.{zipInto, row_leq, RowLeq}
 
@@ -22,32 +23,17 @@ get_or_zip_past f (x ∷ xs) [] k d h = refl
 get_or_zip_past f (x ∷ xs) (y ∷ ys) zero d h = absurd (omega arith)
 get_or_zip_past f (x ∷ xs) (y ∷ ys) (suc k) d h = get_or_zip_past f xs ys k d (omega arith)
 
--- a loop over the places that both rows have leaves `zipInto`
-pub zip_places : {X : Type 0} (f : X → X → X) (xs ys zs : List X) (n : ℕ) → n ≡ min (length xs) (length ys) → length zs ≡ length xs
-    → ((k : ℕ) (d : X) → k < n → get_or zs k d ≡ f (get_or xs k d) (get_or ys k d))
-    → ((k : ℕ) (d : X) → n ≤ k → get_or zs k d ≡ get_or xs k d)
+-- a list with f at the places that both have, and the first row's grades at the others, is `zipInto`
+pub zip_places : {X : Type 0} (f : X → X → X) (xs ys zs : List X) → length zs ≡ length xs
+    → ((k : ℕ) (d : X) → k < length xs → k < length ys → get_or zs k d ≡ f (get_or xs k d) (get_or ys k d))
+    → ((k : ℕ) (d : X) → length ys ≤ k → get_or zs k d ≡ get_or xs k d)
     → zs ≡ zipInto f xs ys
-zip_places f xs ys zs n m e at past =
+zip_places f xs ys zs e at past =
     same_lists zs (zipInto f xs ys) (e ∙ sym (length_zip f xs ys))
-    (λ k d lt. elim (cases_lt k n) [
-      | inl h ↦ at k d h ∙ sym (get_or_zip f xs ys k d (omega arith) (omega arith))
-      | inr h ↦ past k d h ∙ sym (get_or_zip_past f xs ys k d (omega arith))
+    (λ k d lt. elim (cases_lt k (length ys)) [
+      | inl h ↦ at k d (omega arith) h ∙ sym (get_or_zip f xs ys k d (omega arith) h)
+      | inr h ↦ past k d h ∙ sym (get_or_zip_past f xs ys k d h)
     ])
-
-length-map : {X : Type 0} (f : X → X) (xs : List X) → length (map f xs) ≡ length xs
-length-map f [] = refl
-length-map f (x ∷ xs) = ap suc (length-map f xs)
-
-get_d_map : {X : Type 0} (f : X → X) (xs : List X) (k : ℕ) (d : X) → k < length xs → get_or (map f xs) k d ≡ f (get_or xs k d)
-get_d_map f [] k d h = absurd (omega arith)
-get_d_map f (x ∷ xs) zero d h = refl
-get_d_map f (x ∷ xs) (suc k) d h = get_d_map f xs k d (omega arith)
-
--- a loop over all places leaves `map`
-pub map_places : {X : Type 0} (f : X → X) (xs zs : List X) → length zs ≡ length xs
-    → ((k : ℕ) (d : X) → k < length xs → get_or zs k d ≡ f (get_or xs k d)) → zs ≡ map f xs
-map_places f xs zs e at =
-    same_lists zs (map f xs) (e ∙ sym (length-map f xs)) (λ k d lt. at k d (omega arith) ∙ sym (get_d_map f xs k d (omega arith)))
 
 -- ---- order
 
@@ -70,15 +56,15 @@ places_leq o [] (y ∷ ys) e f = absurd (omega arith)
 places_leq o (x ∷ xs) [] e f = absurd (omega arith)
 places_leq o (x ∷ xs) (y ∷ ys) e f = and_from (o.leq x y) (row_leq o xs ys) (f 0 x (omega arith)) (places_leq o xs ys (omega arith) (λ k d l. f (suc k) d (omega arith)))
 
+-- the same as one test of each pair
+pub leq_all : {X : Type 0} (o : Ops X) (xs ys : List X) → length xs ≡ length ys → list_all (λ (p : X × X). o.leq p.0 p.1) (zip xs ys) ≡ row_leq o xs ys
+leq_all o [] [] e = refl
+leq_all o [] (y ∷ ys) e = absurd (omega arith)
+leq_all o (x ∷ xs) [] e = absurd (omega arith)
+leq_all o (x ∷ xs) (y ∷ ys) e = ap (λ b. o.leq x y && b) (leq_all o xs ys (omega arith))
+
 pub leq_lengths : {X : Type 0} (o : Ops X) (xs ys : List X) → (length xs ≡ length ys → ⊥) → row_leq o xs ys ≡ false
 leq_lengths o [] [] e = absurd (e refl)
 leq_lengths o [] (y ∷ ys) e = refl
 leq_lengths o (x ∷ xs) [] e = refl
 leq_lengths o (x ∷ xs) (y ∷ ys) e = and_right (o.leq x y) (row_leq o xs ys) (leq_lengths o xs ys (λ q. e (ap suc q)))
-
--- at one place the first does not lie at or below the second
-pub leq_fails : {X : Type 0} (o : Ops X) (xs ys : List X) (k : ℕ) (a b : X) → k < length xs → a ≡ get_or xs k a → b ≡ get_or ys k b → o.leq a b ≡ false → row_leq o xs ys ≡ false
-leq_fails o [] ys k a b l p q e = absurd (omega arith)
-leq_fails o (x ∷ xs) [] k a b l p q e = refl
-leq_fails o (x ∷ xs) (y ∷ ys) zero a b l p q e = and_left (o.leq x y) (row_leq o xs ys) (sym (ap₂ o.leq p q) ∙ e)
-leq_fails o (x ∷ xs) (y ∷ ys) (suc k) a b l p q e = and_right (o.leq x y) (row_leq o xs ys) (leq_fails o xs ys k a b (omega arith) p q e)

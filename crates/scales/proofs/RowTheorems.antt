@@ -1,6 +1,6 @@
 -- The laws of rows, and theorems over every lawful scale.
 use Rattle.std.proofs.Common.{◌≡◌, ℕ, zero, suc, ◌+◌, ◌<◌, true, false, List, [], ◌∷◌, ◌++◌, length, get_or, take, sym, refl, ap, ◌∙◌, subst, ap₂, arith}
-use Rattle.std.proofs.lemmas.List.{take_more}
+use Rattle.std.specs.List.{fold}
 use Rattle.std.proofs.lemmas.Bool.{and_parts, and_from, both_ways}
 use Rattle.scales.specs.Laws.{Ops, Laws}
 use Rattle.scales.specs.Rows.{row_plus, row_join, row_times, row_zero, row_leq, total, RowLaws, Regroups, Swaps}
@@ -178,11 +178,13 @@ module _ {S : Type 0} {o : Ops S} (L : Laws o) where
   total_append [] ys = sym (L.plus_zero (total o ys))
   total_append (x ∷ xs) ys = ap (o.plus x) (total_append xs ys) ∙ sym (L.plus_assoc x (total o xs) (total o ys))
 
-  -- one more grade at the end
-  pub total_more : (xs : List S) (i : ℕ) (x : S) → i < length xs → x ≡ get_or xs i x → o.plus (total o (take i xs)) x ≡ total o (take (i + 1) xs)
-  total_more xs i x within read =
-      let pushed : take (i + 1) xs ≡ take i xs ++ (x ∷ []) = take_more xs i x within ∙ ap (λ y. take i xs ++ (y ∷ [])) (sym read) in
-      sym (ap (total o) pushed ∙ total_append (take i xs) (x ∷ []) ∙ ap (o.plus (total o (take i xs))) (zero_plus x))
+  -- a sum from the first grade on
+  sum_on : (a : S) (xs : List S) → fold o.plus a xs ≡ o.plus a (total o xs)
+  sum_on a [] = sym (zero_plus a)
+  sum_on a (x ∷ xs) = sum_on (o.plus a x) xs ∙ L.plus_assoc a x (total o xs)
+
+  pub sum_is : (xs : List S) → fold o.plus o.zero xs ≡ total o xs
+  sum_is xs = sum_on o.zero xs ∙ L.plus_zero (total o xs)
 
 pub regroups : Regroups
 regroups S = regroup S.laws

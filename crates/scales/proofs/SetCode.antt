@@ -1,11 +1,11 @@
 -- What the code on masks does, by members.
-use Rattle.std.proofs.Common.{◌≡◌, ℕ, zero, suc, ◌+◌, ◌-◌, ◌*◌, ◌/◌, ◌%◌, ◌^◌, ◌<◌, ◌≤◌, min, true, false, eqb, List, length, get_or, sym, refl, ap, ◌∙◌, subst, inl, inr, add-one, one-add, arith}
+use Rattle.std.proofs.Common.{◌≡◌, ◌&&◌, ℕ, zero, suc, ◌+◌, ◌-◌, ◌*◌, ◌/◌, ◌%◌, ◌^◌, ◌<◌, ◌≤◌, min, true, false, eqb, List, length, get_or, sym, refl, ap, ◌∙◌, subst, inl, inr, add-one, one-add, arith}
 use lib.Bits.{bit_and, bit_or, or_lt, and_lt, and_mask}
 use lib.Count.{count_leading_zeros}
 use lib.Pow.{pow-lt}
 use Rattle.std.proofs.lemmas.Nat.{shr-shr, leading_top, and_le_r}
 use Rattle.std.proofs.lemmas.Bool.{eq-eqb, eqb-true, and_parts, and_from, or_cases, or_left, or_right, cases_lt, cases_eq, cases_Bool, cond_both, both_ways, cond-true}
-use Rattle.scales.specs.Masks.{bit, bit_pos, some_bit, sum, repeated, product, bit_lt, sum_lt, product_lt, repeated_lt, sum_of, sum_has, product_of, product_has}
+use Rattle.scales.specs.Masks.{bit, any, gather, bit_pos, some_bit, sum, repeated, is_product, product, after, is_after, union_after, union_lt, union_of, union_has, bit_lt, sum_lt, sum_of, sum_has}
 use Rattle.scales.specs.Set.{member, AreMembers, Holds as IsSet, highest, bounded}
 use Rattle.scales.specs.declared.set.Set.{Set}
 use Rattle.scales.specs.SetLaws.{bit_ext, bit_of_and, bit_of_or, bool_same, zero_of, one_of, empty_of}
@@ -94,87 +94,90 @@ stepped_is m h =
     ∙ bit_ext 16 (stepped m) (sum 2 m) (or_lt 16 (bit_and m 32767 * 2) (bit_and m 32768) (omega arith) (and_lt 16 m 32768 h (omega arith))) (sum_lt 2 m)
     (λ x l. bool_same (bit (stepped m) x) (bit (sum 2 m) x) (step_of m x h) (step_has m x h))
 
--- a loop that takes the members of A one by one, and joins to `all` what R says of each
-pub record Gathered (A : ℕ) (R : ℕ → ℕ → Type 0) (n all : ℕ) : Type 0 where
+-- a loop that takes the members of m one by one, and joins to `all` the set that S gives for each
+pub record Gathered (m : ℕ) (S : ℕ → ℕ) (n all : ℕ) : Type 0 where
   pub fits : all < 65536
-  pub of : (x : ℕ) → bit all x ≡ true → (a : ℕ) × (a < n) × (bit A a ≡ true) × R a x
-  pub has : (a x : ℕ) → a < n → bit A a ≡ true → R a x → bit all x ≡ true
+  pub of : (x : ℕ) → bit all x ≡ true → (a : ℕ) × (a < n) × (bit m a ≡ true) × (bit (S a) x ≡ true)
+  pub has : (a x : ℕ) → a < n → bit m a ≡ true → bit (S a) x ≡ true → bit all x ≡ true
 
--- what p holds is what R says at n
-pub record Holds (R : ℕ → ℕ → Type 0) (n p : ℕ) : Type 0 where
-  pub fits : p < 65536
-  pub of : (x : ℕ) → bit p x ≡ true → R n x
-  pub has : (x : ℕ) → R n x → bit p x ≡ true
+pub gathered_none : (m : ℕ) (S : ℕ → ℕ) → Gathered m S 0 0
+gathered_none m S = record { fits = omega arith; of = λ x h. absurd (empty_of x h); has = λ a x h. absurd (omega arith) }
 
-pub gathered_none : (A : ℕ) (R : ℕ → ℕ → Type 0) → Gathered A R 0 0
-gathered_none A R = record { fits = omega arith; of = λ x h. absurd (empty_of x h); has = λ a x h. absurd (omega arith) }
-
-pub gathered_skip : (A : ℕ) (R : ℕ → ℕ → Type 0) (n all : ℕ) → Gathered A R n all → bit A n ≡ false → Gathered A R (n + 1) all
-gathered_skip A R n all g e = record {
+pub gathered_skip : (m : ℕ) (S : ℕ → ℕ) (n all : ℕ) → Gathered m S n all → bit m n ≡ false → Gathered m S (n + 1) all
+gathered_skip m S n all g e = record {
   fits = g.fits;
   of = λ x h. let r = g.of x h in (r.0, omega (arith, r.1), r.2, r.3);
-  has = λ a x h p r. elim (cases_eq a n) [ inl q ↦ absurd (both_ways (bit A n) e (subst (λ (y : ℕ). bit A y ≡ true) q p)) | inr d ↦ g.has a x (omega arith) p r ];
+  has = λ a x h p r. elim (cases_eq a n) [ inl q ↦ absurd (both_ways (bit m n) e (subst (λ (y : ℕ). bit m y ≡ true) q p)) | inr d ↦ g.has a x (omega arith) p r ];
 }
 
-pub gathered_take : (A : ℕ) (R : ℕ → ℕ → Type 0) (n all p : ℕ) → Gathered A R n all → bit A n ≡ true → Holds R n p → Gathered A R (n + 1) (bit_or all p)
-gathered_take A R n all p g e m = record {
-  fits = or_lt 16 all p g.fits m.fits;
+pub gathered_take : (m : ℕ) (S : ℕ → ℕ) (n all p : ℕ) → Gathered m S n all → bit m n ≡ true → p < 65536 → p ≡ S n → Gathered m S (n + 1) (bit_or all p)
+gathered_take m S n all p g e fits same = record {
+  fits = or_lt 16 all p g.fits fits;
   of = λ x h. elim (or_cases (bit all x) (bit p x) (sym (bit_of_or all p x) ∙ h)) [
     | inl q ↦ (let r = g.of x q in (r.0, omega (arith, r.1), r.2, r.3))
-    | inr q ↦ (n, omega arith, e, m.of x q)
+    | inr q ↦ (n, omega arith, e, subst (λ (y : ℕ). bit y x ≡ true) same q)
   ];
   has = λ a x h t r. bit_of_or all p x ∙ elim (cases_eq a n) [
-    | inl q ↦ or_right (bit all x) (bit p x) (m.has x (subst (λ (y : ℕ). R y x) q r))
+    | inl q ↦ or_right (bit all x) (bit p x) (subst (λ (y : ℕ). bit y x ≡ true) (ap S q ∙ sym same) r)
     | inr d ↦ or_left (bit all x) (bit p x) (g.has a x (omega arith) t r)
   ];
 }
 
--- x is n and a member of b
-abbrev pub Raised : ℕ → ℕ → ℕ → Type 0
-Raised b n x = (y : ℕ) × (bit b y ≡ true) × (x ≡ min (n + y) 15)
+pub after_none : (next : ℕ → ℕ) (k : ℕ) → k ≡ after next k 0
+unfolding after
+after_none next k = refl
 
-pub raised_none : (b : ℕ) → b < 65536 → Holds (Raised b) 0 b
-raised_none b h = record {
+pub after_more : (next : ℕ → ℕ) (k n p q : ℕ) → p ≡ after next k n → q ≡ next p → q ≡ after next k (n + 1)
+unfolding after
+after_more next k n p q e d = d ∙ ap next e ∙ ap (after next k) (sym (add-one n))
+
+pub gathered_all : (next : ℕ → ℕ) (m k all : ℕ) → Gathered m (after next k) 16 all → all ≡ union_after next m k
+gathered_all next m k all g =
+    bit_ext 16 all (union_after next m k) g.fits (union_lt next m k)
+    (λ x l. bool_same (bit all x) (bit (union_after next m k) x)
+    (λ p. let r = g.of x p in union_has next m k r.0 x r.1 l r.2 r.3)
+    (λ p. let r = union_of next m k x l p in g.has r.0 x r.1 r.2 r.3))
+
+-- a sum is a union of raised sets
+pub record Raised (b n p : ℕ) : Type 0 where
+  pub fits : p < 65536
+  pub of : (x : ℕ) → bit p x ≡ true → (y : ℕ) × (bit b y ≡ true) × (x ≡ min (n + y) 15)
+  pub has : (y : ℕ) → bit b y ≡ true → bit p (min (n + y) 15) ≡ true
+
+raised : (b n : ℕ) → b < 65536 → Raised b n (after (sum 2) b n)
+unfolding after
+raised b zero h = record {
   fits = h;
   of = λ x p. (x, p, omega (arith, bit_lt 16 b x h p));
-  has = λ x r. subst (λ (y : ℕ). bit b y ≡ true) (omega (arith, r.2, bit_lt 16 b r.0 h r.1)) r.1;
+  has = λ y p. move b y (min (0 + y) 15) (omega (arith, bit_lt 16 b y h p)) p;
 }
+raised b (suc n) h =
+    let p = after (sum 2) b n in
+    let r = raised b n h in
+    record {
+      fits = sum_lt 2 p;
+      of = λ x q. let s = sum_of 2 p x q in let t = r.of s.1 s.3 in (t.0, t.1, omega (arith, s.4, t.2, one_of s.0 s.2));
+      has = λ y q. move (sum 2 p) (min (1 + min (n + y) 15) 15) (min (suc n + y) 15) (omega arith) (sum_has 2 p 1 (min (n + y) 15) (omega arith) r.fits two_has (r.has y q));
+    }
 
-pub raised_more : (b n p : ℕ) → Holds (Raised b) n p → Holds (Raised b) (n + 1) (sum 2 p)
-raised_more b n p m = record {
-  fits = sum_lt 2 p;
-  of = λ x q. let r = sum_of 2 p x q in let s = m.of r.1 r.3 in (s.0, s.1, omega (arith, r.4, s.2, one_of r.0 r.2));
-  has = λ x r. move (sum 2 p) (min (1 + min (n + r.0) 15) 15) x (omega (arith, r.2))
-      (sum_has 2 p 1 (min (n + r.0) 15) (omega arith) m.fits two_has (m.has (min (n + r.0) 15) (r.0, r.1, refl)));
-}
+pub sum_is_union : (m b : ℕ) → m < 65536 → b < 65536 → union_after (sum 2) m b ≡ sum m b
+sum_is_union m b hm hb =
+    bit_ext 16 (union_after (sum 2) m b) (sum m b) (union_lt (sum 2) m b) (sum_lt m b)
+    (λ x l. bool_same (bit (union_after (sum 2) m b) x) (bit (sum m b) x)
+    (λ p. let r = union_of (sum 2) m b x l p in let t = (raised b r.0 hb).of x r.3 in
+    move (sum m b) (min (r.0 + t.0) 15) x (sym t.2) (sum_has m b r.0 t.0 hm hb r.2 t.1))
+    (λ p. let r = sum_of m b x p in
+    union_has (sum 2) m b r.0 x (bit_lt 16 m r.0 hm r.2) l r.2 (move (after (sum 2) b r.0) (min (r.0 + r.1) 15) x (sym r.4) ((raised b r.0 hb).has r.1 r.3))))
 
-pub gathered_sum : (A b all : ℕ) → A < 65536 → b < 65536 → Gathered A (Raised b) 16 all → all ≡ sum A b
-gathered_sum A b all hA hb g =
-    bit_ext 16 all (sum A b) g.fits (sum_lt A b)
-    (λ x l. bool_same (bit all x) (bit (sum A b) x)
-    (λ p. let r = g.of x p in subst (λ (y : ℕ). bit (sum A b) y ≡ true) (sym r.3.2) (sum_has A b r.0 r.3.0 hA hb r.2 r.3.1))
-    (λ p. let r = sum_of A b x p in g.has r.0 x (bit_lt 16 A r.0 hA r.2) r.2 (r.1, r.3, r.4)))
+-- a product is a union of repeated sums
+repeated_after : (b n : ℕ) → after (sum b) 1 n ≡ repeated b n
+unfolding after repeated
+repeated_after b zero = refl
+repeated_after b (suc n) = ap (sum b) (repeated_after b n)
 
-abbrev pub Repeated : ℕ → ℕ → ℕ → Type 0
-Repeated b n x = bit (repeated b n) x ≡ true
-
-pub counted : (b n p : ℕ) → p ≡ repeated b n → Holds (Repeated b) n p
-counted b n p e = record { fits = subst (λ (k : ℕ). k < 65536) (sym e) (repeated_lt b n); of = λ x h. subst (λ (k : ℕ). bit k x ≡ true) e h; has = λ x h. subst (λ (k : ℕ). bit k x ≡ true) (sym e) h }
-
-pub counted_none : (b : ℕ) → 1 ≡ repeated b 0
-unfolding repeated
-counted_none b = refl
-
-pub counted_more : (b n p q : ℕ) → p ≡ repeated b n → q ≡ sum b p → q ≡ repeated b (n + 1)
-unfolding repeated
-counted_more b n p q e d = d ∙ ap (sum b) e ∙ ap (repeated b) (sym (add-one n))
-
-pub gathered_product : (A b all : ℕ) → A < 65536 → Gathered A (Repeated b) 16 all → all ≡ product A b
-gathered_product A b all hA g =
-    bit_ext 16 all (product A b) g.fits (product_lt A b)
-    (λ x l. bool_same (bit all x) (bit (product A b) x)
-    (λ p. let r = g.of x p in product_has A b r.0 x hA r.2 r.3)
-    (λ p. let r = product_of A b x p in g.has r.0 x (bit_lt 16 A r.0 hA r.1) r.1 r.2))
+pub product_is_union : (m b : ℕ) → union_after (sum b) m 1 ≡ product m b
+unfolding union_after is_after product is_product
+product_is_union m b = λ i. gather 16 (λ x. any 16 (λ n. bit m n && bit (repeated_after b n i) x))
 
 -- ---- the highest member
 
@@ -192,13 +195,9 @@ highest_at m (suc n) j l p h =
       | inr d ↦ cond_both (bit m n) n (highest m n) (λ y. y ≡ j) (λ e. absurd (let b = bit_lt (suc j) m n h e in omega arith)) (λ e. highest_at m n j (omega arith) p h)
     ]
 
-pub highest_leading : (m : ℕ) → 0 < m → m < 65536 → highest m 16 ≡ 15 - count_leading_zeros 16 m
-highest_leading m p h =
-    let r = leading_top 16 m p h in
-    highest_at m 16 r.0 (omega (arith, r.1)) (top_bit r.0 m r.2 r.3) r.3 ∙ omega (arith, r.1)
-
-pub bounded_is : (m : ℕ) → 0 < m → m < 65536 → bounded (highest m 16) ≡ bounded (15 - count_leading_zeros 16 m)
-bounded_is m p h = ap bounded (highest_leading m p h)
+-- 2 ^ j is the highest power in m
+pub highest_is : (m j : ℕ) → 2 ^ j ≤ m → m < 2 * 2 ^ j → j < 16 → highest m 16 ≡ j
+highest_is m j l h b = highest_at m 16 j b (top_bit j m l (omega arith)) (omega arith)
 
 -- ---- members
 

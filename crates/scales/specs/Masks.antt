@@ -38,6 +38,18 @@ is_product m k x = any 16 (λ n. bit m n && bit (repeated k n) x)
 unfoldable pub product : ℕ → ℕ → ℕ
 product m k = gather 16 (is_product m k)
 
+-- the set after n steps
+unfoldable pub after : (ℕ → ℕ) → ℕ → ℕ → ℕ
+after next k zero = k
+after next k (suc n) = next (after next k n)
+
+-- whether x is a member of k after n steps, for a member n of m
+unfoldable pub is_after : (ℕ → ℕ) → ℕ → ℕ → ℕ → Bool
+is_after next m k x = any 16 (λ n. bit m n && bit (after next k n) x)
+
+unfoldable pub union_after : (ℕ → ℕ) → ℕ → ℕ → ℕ
+union_after next m k = gather 16 (is_after next m k)
+
 -- ---- members
 
 low_bit : (b : Bool) (g : ℕ) → ((cond b 1 0 + 2 * g) % 2 == 1) ≡ b
@@ -152,6 +164,23 @@ unfolding product is_product
 product_has m k n x hm p q =
     bit_gather 16 (is_product m k) x (bit_lt 16 (repeated k n) x (repeated_lt k n) q)
     ∙ any_from 16 (λ n. bit m n && bit (repeated k n) x) n (bit_lt 16 m n hm p) (and_from (bit m n) (bit (repeated k n) x) p q)
+
+pub union_lt : (next : ℕ → ℕ) (m k : ℕ) → union_after next m k < 65536
+unfolding union_after
+union_lt next m k = gather_lt 16 (is_after next m k)
+
+pub union_of : (next : ℕ → ℕ) (m k x : ℕ) → x < 16 → bit (union_after next m k) x ≡ true → (n : ℕ) × (n < 16) × (bit m n ≡ true) × (bit (after next k n) x ≡ true)
+unfolding union_after is_after
+union_of next m k x l h =
+    let r = any_some 16 (λ n. bit m n && bit (after next k n) x) (sym (bit_gather 16 (is_after next m k) x l) ∙ h) in
+    let u = and_parts (bit m r.0) (bit (after next k r.0) x) r.2 in
+    (r.0, r.1, u.0, u.1)
+
+pub union_has : (next : ℕ → ℕ) (m k n x : ℕ) → n < 16 → x < 16 → bit m n ≡ true → bit (after next k n) x ≡ true → bit (union_after next m k) x ≡ true
+unfolding union_after is_after
+union_has next m k n x h l p q =
+    bit_gather 16 (is_after next m k) x l
+    ∙ any_from 16 (λ n. bit m n && bit (after next k n) x) n h (and_from (bit m n) (bit (after next k n) x) p q)
 
 -- none of these is empty
 pub sum_pos : (m k : ℕ) → m < 65536 → k < 65536 → 0 < m → 0 < k → 0 < sum m k

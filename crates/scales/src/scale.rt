@@ -2,8 +2,8 @@
 ghost use Rattle.std.specs.Prelude.{◌≡◌};
 ghost use Rattle.scales.specs.Laws.{Laws, Ops};
 
-// The most uses that a grade allows: a count, or no bound.
-#[derive(Clone, Copy, PartialEq, Eq, Debug)]
+// The most uses that a grade allows: a count, or no bound. Counts lie by size, no bound above them all.
+#[derive(Clone, Copy, PartialEq, Eq, PartialOrd, Ord, Debug)]
 pub enum Ceiling {
     Count(u16),
     Unbounded,

@@ -29,37 +29,25 @@ impl Scale for Tally {
 
     fn add(self, other: Tally) -> Tally {
         match (self, other) {
-            (Tally::Zero, x) => x,
-            (x, Tally::Zero) => x,
+            (Tally::Zero, x) | (x, Tally::Zero) => x,
             _ => Tally::Many,
         }
     }
 
     fn mul(self, other: Tally) -> Tally {
         match (self, other) {
-            (Tally::Zero, _) => Tally::Zero,
-            (_, Tally::Zero) => Tally::Zero,
-            (Tally::One, x) => x,
-            (x, Tally::One) => x,
+            (Tally::Zero, _) | (_, Tally::Zero) => Tally::Zero,
+            (Tally::One, x) | (x, Tally::One) => x,
             _ => Tally::Many,
         }
     }
 
     fn leq(self, other: Tally) -> bool {
-        match (self, other) {
-            (_, Tally::Many) => true,
-            (Tally::Zero, Tally::Zero) => true,
-            (Tally::One, Tally::One) => true,
-            _ => false,
-        }
+        self == other || other == Tally::Many
     }
 
     fn join(self, other: Tally) -> Tally {
-        match (self, other) {
-            (Tally::Zero, Tally::Zero) => Tally::Zero,
-            (Tally::One, Tally::One) => Tally::One,
-            _ => Tally::Many,
-        }
+        if self == other { self } else { Tally::Many }
     }
 
     fn ceiling(self) -> Ceiling {

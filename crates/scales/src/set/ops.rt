@@ -1,8 +1,9 @@
-// Sets of numbers of uses. A set is kept as a mask: bit n stands if n is a member.
-ghost use Rattle.std.specs.Prelude.{◌≡◌, ◌<◌, Some, MatchOption};
-ghost use Rattle.scales.specs.Text.{listed, set_text};
-ghost use Rattle.scales.specs.Masks.{bit, sum, product};
-ghost use Rattle.scales.specs.Set.{set_ops, set_plus, set_times, member, AreMembers, ByMembers, Holds};
+// Sets of numbers of uses. A set is kept as a mask, since grades are copied and lie in fixed memory: bit n
+// stands if n is a member.
+ghost use Rattle.std.specs.Prelude.{◌≡◌, ◌<◌, ℕ, Some, MatchOption};
+ghost use Rattle.scales.specs.Text.{set_text};
+ghost use Rattle.scales.specs.Masks.{bit, sum, product, union_after};
+ghost use Rattle.scales.specs.Set.{set_ops, member, AreMembers, ByMembers, Holds};
 ghost use Rattle.scales.specs.SetLaws.{set_laws};
 
 use super::Set;
@@ -26,50 +27,34 @@ fn next(mask: u16) -> u16
     ((mask & 0x7fff) << 1) | (mask & 0x8000)
 }
 
-// `raised` holds the members of `b`, each n more.
+// The union, over the members n of `counts`, of what `first` is after n steps.
+fn union_after<F: Fn(u16) -> u16>(counts: u16, first: u16, step: F) -> u16
+    requires { F.IsAlwaysCallable step }
+    ensures { (next : ℕ → ℕ) → ((m r : ℕ) → F.post step m r → r ≡ next m) → result ≡ union_after next counts first }
+{
+    let mut all = 0;
+    let mut stepped = first;
+    for n in 0..16 {
+        if has(counts, n) {
+            all |= stepped;
+        }
+        stepped = step(stepped);
+    }
+    all
+}
+
+// Each member of `b` is raised by each member of `a`.
 fn sum_of_masks(a: u16, b: u16) -> u16
     ensures { result ≡ sum a b }
 {
-    let mut all: u16 = 0;
-    let mut raised = b;
-    for n in 0..16 {
-        if has(a, n) {
-            all |= raised;
-        }
-        raised = next(raised);
-    }
-    all
+    union_after(a, b, next)
 }
 
-// `repeated` holds `b` summed n times.
+// For each member n of `a`, `b` is summed n times.
 fn product_of_masks(a: u16, b: u16) -> u16
     ensures { result ≡ product a b }
 {
-    let mut all: u16 = 0;
-    let mut repeated: u16 = 1;
-    for n in 0..16 {
-        if has(a, n) {
-            all |= repeated;
-        }
-        repeated = sum_of_masks(b, repeated);
-    }
-    all
-}
-
-fn sum_of(a: Set, b: Set) -> Set
-    ensures { result ≡ set_plus a b }
-{
-    Set {
-        mask: sum_of_masks(a.mask, b.mask),
-    }
-}
-
-fn product_of(a: Set, b: Set) -> Set
-    ensures { result ≡ set_times a b }
-{
-    Set {
-        mask: product_of_masks(a.mask, b.mask),
-    }
+    union_after(a, 1, |repeated| sum_of_masks(b, repeated))
 }
 
 impl Set {
@@ -78,11 +63,11 @@ impl Set {
         ensures { MatchOption result (AreMembers members.now → ⊥) (λ s. AreMembers members.now × Holds s members.now) }
     {
         let mut mask: u16 = 0;
-        for n in members {
-            if *n > TOP {
+        for &n in members {
+            if n > TOP {
                 return None;
             }
-            mask |= 1 << *n;
+            mask |= 1 << n;
         }
         if mask > 0 { Some(Set { mask }) } else { None }
     }
@@ -113,12 +98,18 @@ impl Scale for Set {
         Set { mask: 2 }
     }
 
+    #[tactic(auto, using(crate::specs::Masks::sum_pos))]
     fn add(self, other: Set) -> Set {
-        sum_of(self, other)
+        Set {
+            mask: sum_of_masks(self.mask, other.mask),
+        }
     }
 
+    #[tactic(auto, using(crate::specs::Masks::product_pos))]
     fn mul(self, other: Set) -> Set {
-        product_of(self, other)
+        Set {
+            mask: product_of_masks(self.mask, other.mask),
+        }
     }
 
     fn leq(self, other: Set) -> bool {
@@ -132,7 +123,7 @@ impl Scale for Set {
     }
 
     fn ceiling(self) -> Ceiling {
-        let top = TOP - self.mask.leading_zeros() as u16;
+        let top = self.mask.ilog2() as u16;
         if top < TOP {
             Ceiling::Count(top)
         } else {
@@ -141,32 +132,19 @@ impl Scale for Set {
     }
 }
 
-// The members of a set as they print: from the least, with commas between them.
-#[derive(Clone, Copy)]
-struct Members {
-    of: Set,
-}
-
-impl fmt::Display for Members {
-    ghost output = { λ m. Some (listed m.«of» 16) };
-
-    fn fmt<W: fmt::Write>(&self, f: &mut fmt::Formatter<W>) -> fmt::Result {
-        let mut separator = "";
-        for n in 0..16 {
-            if self.of.contains(n) {
-                write!(f, "{separator}{n}")?;
-                separator = ",";
-            }
-        }
-        Ok(())
-    }
-}
-
+// The members from the least, in braces and with commas between them.
 impl fmt::Display for Set {
     ghost output = { λ s. Some (set_text s) };
 
     fn fmt<W: fmt::Write>(&self, f: &mut fmt::Formatter<W>) -> fmt::Result {
-        let members = Members { of: *self };
-        write!(f, "{{{members}}}")
+        f.write_str("{")?;
+        let mut separator = "";
+        for n in 0..16 {
+            if self.contains(n) {
+                write!(f, "{separator}{n}")?;
+                separator = ",";
+            }
+        }
+        f.write_str("}")
     }
 }
