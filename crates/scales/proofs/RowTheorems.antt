@@ -1,5 +1,5 @@
 -- The laws of rows, and theorems over every lawful scale.
-use Rattle.std.proofs.Common.{◌≡◌, ℕ, zero, suc, ◌+◌, ◌<◌, true, false, List, [], ◌∷◌, ◌++◌, length, get_or, take, sym, refl, ap, ◌∙◌, subst, ap₂, arith}
+use Rattle.std.proofs.Common.{◌≡◌, ℕ, zero, suc, true, false, List, [], ◌∷◌, ◌++◌, length, sym, refl, ap, ◌∙◌, subst, ap₂, arith}
 use Rattle.std.specs.List.{fold}
 use Rattle.std.proofs.lemmas.Bool.{and_parts, and_from, both_ways}
 use Rattle.scales.specs.Laws.{Ops, Laws}
@@ -38,42 +38,42 @@ module _ {S : Type 0} {o : Ops S} (L : Laws o) where
   row_plus_comm [] [] e = refl
   row_plus_comm [] (y ∷ ys) e = absurd (omega arith)
   row_plus_comm (x ∷ xs) [] e = absurd (omega arith)
-  row_plus_comm (x ∷ xs) (y ∷ ys) e = ap₂ (λ a as'. a ∷ as') (L.plus_comm x y) (row_plus_comm xs ys (omega arith))
+  row_plus_comm (x ∷ xs) (y ∷ ys) e = ap₂ ◌∷◌ (L.plus_comm x y) (row_plus_comm xs ys (omega arith))
 
   row_plus_assoc : (xs ys zs : List S) → length xs ≡ length ys → row_plus o (row_plus o xs ys) zs ≡ row_plus o xs (row_plus o ys zs)
   row_plus_assoc [] ys zs e = refl
   row_plus_assoc (x ∷ xs) [] zs e = absurd (omega arith)
   row_plus_assoc (x ∷ xs) (y ∷ ys) [] e = refl
-  row_plus_assoc (x ∷ xs) (y ∷ ys) (z ∷ zs) e = ap₂ (λ a as'. a ∷ as') (L.plus_assoc x y z) (row_plus_assoc xs ys zs (omega arith))
+  row_plus_assoc (x ∷ xs) (y ∷ ys) (z ∷ zs) e = ap₂ ◌∷◌ (L.plus_assoc x y z) (row_plus_assoc xs ys zs (omega arith))
 
   row_plus_zero : (xs : List S) → row_plus o (row_zero o (length xs)) xs ≡ xs
   row_plus_zero [] = refl
-  row_plus_zero (x ∷ xs) = ap₂ (λ a as'. a ∷ as') (L.plus_zero x) (row_plus_zero xs)
+  row_plus_zero (x ∷ xs) = ap₂ ◌∷◌ (L.plus_zero x) (row_plus_zero xs)
 
   row_zero_plus : (xs : List S) (n : ℕ) → row_plus o xs (row_zero o n) ≡ xs
   row_zero_plus [] n = refl
   row_zero_plus (x ∷ xs) zero = refl
-  row_zero_plus (x ∷ xs) (suc n) = ap₂ (λ a as'. a ∷ as') (zero_plus x) (row_zero_plus xs n)
+  row_zero_plus (x ∷ xs) (suc n) = ap₂ ◌∷◌ (zero_plus x) (row_zero_plus xs n)
 
   row_times_assoc : (a b : S) (xs : List S) → row_times o (o.times a b) xs ≡ row_times o a (row_times o b xs)
   row_times_assoc a b [] = refl
-  row_times_assoc a b (x ∷ xs) = ap₂ (λ a as'. a ∷ as') (L.times_assoc a b x) (row_times_assoc a b xs)
+  row_times_assoc a b (x ∷ xs) = ap₂ ◌∷◌ (L.times_assoc a b x) (row_times_assoc a b xs)
 
   row_one_times : (xs : List S) → row_times o o.one xs ≡ xs
   row_one_times [] = refl
-  row_one_times (x ∷ xs) = ap₂ (λ a as'. a ∷ as') (L.one_times x) (row_one_times xs)
+  row_one_times (x ∷ xs) = ap₂ ◌∷◌ (L.one_times x) (row_one_times xs)
 
   row_zero_times : (xs : List S) → row_times o o.zero xs ≡ row_zero o (length xs)
   row_zero_times [] = refl
-  row_zero_times (x ∷ xs) = ap₂ (λ a as'. a ∷ as') (L.zero_times x) (row_zero_times xs)
+  row_zero_times (x ∷ xs) = ap₂ ◌∷◌ (L.zero_times x) (row_zero_times xs)
 
   row_times_zero : (a : S) (n : ℕ) → row_times o a (row_zero o n) ≡ row_zero o n
   row_times_zero a zero = refl
-  row_times_zero a (suc n) = ap₂ (λ a as'. a ∷ as') (L.times_zero a) (row_times_zero a n)
+  row_times_zero a (suc n) = ap₂ ◌∷◌ (L.times_zero a) (row_times_zero a n)
 
   row_plus_times : (a b : S) (xs : List S) → row_times o (o.plus a b) xs ≡ row_plus o (row_times o a xs) (row_times o b xs)
   row_plus_times a b [] = refl
-  row_plus_times a b (x ∷ xs) = ap₂ (λ a as'. a ∷ as') (L.plus_times a b x) (row_plus_times a b xs)
+  row_plus_times a b (x ∷ xs) = ap₂ ◌∷◌ (L.plus_times a b x) (row_plus_times a b xs)
 
   row_leq_refl : (xs : List S) → row_leq o xs xs ≡ true
   row_leq_refl [] = refl
@@ -98,7 +98,7 @@ module _ {S : Type 0} {o : Ops S} (L : Laws o) where
   row_leq_anti [] (y ∷ ys) h k = never h
   row_leq_anti (x ∷ xs) [] h k = never h
   row_leq_anti (x ∷ xs) (y ∷ ys) h k =
-      ap₂ (λ a as'. a ∷ as') (L.leq_anti x y (head_leq x y xs ys h) (head_leq y x ys xs k)) (row_leq_anti xs ys (tail_leq x y xs ys h) (tail_leq y x ys xs k))
+      ap₂ ◌∷◌ (L.leq_anti x y (head_leq x y xs ys h) (head_leq y x ys xs k)) (row_leq_anti xs ys (tail_leq x y xs ys h) (tail_leq y x ys xs k))
 
   row_plus_mono_l : (xs ys zs : List S) → row_leq o xs ys ≡ true → row_leq o (row_plus o xs zs) (row_plus o ys zs) ≡ true
   row_plus_mono_l [] [] zs h = refl

@@ -1,12 +1,11 @@
 -- What the code on masks does, by members.
 use Rattle.std.proofs.Common.{◌≡◌, ◌&&◌, ℕ, zero, suc, ◌+◌, ◌-◌, ◌*◌, ◌/◌, ◌%◌, ◌^◌, ◌<◌, ◌≤◌, min, true, false, eqb, List, length, get_or, sym, refl, ap, ◌∙◌, subst, inl, inr, add-one, one-add, arith}
 use lib.Bits.{bit_and, bit_or, or_lt, and_lt, and_mask}
-use lib.Count.{count_leading_zeros}
 use lib.Pow.{pow-lt}
-use Rattle.std.proofs.lemmas.Nat.{shr-shr, leading_top, and_le_r}
+use Rattle.std.proofs.lemmas.Nat.{shr-shr, and_le_r}
 use Rattle.std.proofs.lemmas.Bool.{eq-eqb, eqb-true, and_parts, and_from, or_cases, or_left, or_right, cases_lt, cases_eq, cases_Bool, cond_both, both_ways, cond-true}
 use Rattle.scales.specs.Masks.{bit, any, gather, bit_pos, some_bit, sum, repeated, is_product, product, after, is_after, union_after, union_lt, union_of, union_has, bit_lt, sum_lt, sum_of, sum_has}
-use Rattle.scales.specs.Set.{member, AreMembers, Holds as IsSet, highest, bounded}
+use Rattle.scales.specs.Set.{member, AreMembers, Holds as IsSet, highest}
 use Rattle.scales.specs.declared.set.Set.{Set}
 use Rattle.scales.specs.SetLaws.{bit_ext, bit_of_and, bit_of_or, bool_same, zero_of, one_of, empty_of}
 

@@ -63,10 +63,10 @@ impl fmt::Display for Tally {
     ghost output = { λ t. Some (tally_text t) };
 
     fn fmt<W: fmt::Write>(&self, f: &mut fmt::Formatter<W>) -> fmt::Result {
-        match self {
-            Tally::Zero => f.write_str("none"),
-            Tally::One => f.write_str("one"),
-            Tally::Many => f.write_str("many"),
-        }
+        f.write_str(match self {
+            Tally::Zero => "none",
+            Tally::One => "one",
+            Tally::Many => "many",
+        })
     }
 }

@@ -11,6 +11,7 @@ ghost use Rattle.scales.specs.Tally.{tally_ops};
 use crate::scale::Ceiling;
 
 // Sums and scalings of spans and sets, worked out.
+#[tactic(auto, using(crate::proofs::WorkedOut::examples))]
 pub fn examples()
     ensures { Examples }
 {}
@@ -23,6 +24,7 @@ pub fn order_of_ceilings()
 {}
 
 // Under tally, span and set, k uses within a grade of one are exactly one use.
+#[tactic(auto, using(crate::proofs::SetMembers::set_exact, crate::specs::SpanLaws::span_exact, crate::specs::TallyLaws::tally_exact))]
 pub fn exactly_one()
     ensures tally { ExactlyOne tally_ops }
     ensures span { ExactlyOne span_ops }

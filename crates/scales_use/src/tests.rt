@@ -22,17 +22,11 @@ fn prints<D: Display + Drop>(
 }
 
 fn span(low: u16, high: Ceiling) -> Result<Span, Fail> {
-    match Span::new(low, high) {
-        Some(span) => Ok(span),
-        None => Err(Fail::new("no span")),
-    }
+    Span::new(low, high).ok_or_else(|| Fail::new("no span"))
 }
 
 fn set(members: &[u16]) -> Result<Set, Fail> {
-    match Set::new(members) {
-        Some(set) => Ok(set),
-        None => Err(Fail::new("no set")),
-    }
+    Set::new(members).ok_or_else(|| Fail::new("no set"))
 }
 
 #[test]

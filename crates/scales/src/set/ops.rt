@@ -13,6 +13,7 @@ use std::fmt;
 // The highest member, which stands for itself and for all above.
 pub const TOP: u16 = 15;
 
+#[tactic(auto, using(crate::proofs::SetCode::bit_test))]
 fn has(mask: u16, n: u16) -> bool
     requires { n < 16 }
     ensures { result ≡ bit mask n }
@@ -21,6 +22,7 @@ fn has(mask: u16, n: u16) -> bool
 }
 
 // One more than each member, at most 15.
+#[tactic(auto, using(crate::proofs::SetCode::stepped_is))]
 fn next(mask: u16) -> u16
     ensures { result ≡ sum 2 mask }
 {
@@ -73,6 +75,7 @@ impl Set {
     }
 
     // Whether n is a member; no number above 15 is one.
+    #[tactic(auto, using(crate::proofs::SetCode::none_above))]
     pub fn contains(self, n: u16) -> bool
         ensures { result ≡ member self n }
     {
@@ -81,6 +84,7 @@ impl Set {
 }
 
 // What the operations are, by members alone.
+#[tactic(auto, using(crate::proofs::SetMembers::by_members))]
 pub fn by_members()
     ensures { ByMembers }
 {}
@@ -122,6 +126,7 @@ impl Scale for Set {
         }
     }
 
+    #[tactic(auto, using(crate::proofs::SetCode::highest_is))]
     fn ceiling(self) -> Ceiling {
         let top = self.mask.ilog2() as u16;
         if top < TOP {

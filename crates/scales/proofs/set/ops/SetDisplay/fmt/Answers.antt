@@ -1,4 +1,4 @@
-use Rattle.std.proofs.Common.{◌≡◌, ℕ, ◌+◌, sym, refl, ap, ◌∙◌, subst, rules}
+use Rattle.std.proofs.Common.{◌+◌, sym, refl, ap, ◌∙◌, subst, rules}
 use Rattle.std.specs.Fmt.{HasWritten}
 use Rattle.scales.specs.Text.{comma, listed}
 use Rattle.scales.proofs.SetText.{listed_skip, comma_first, comma_after, put_nothing, put_member, put_skip}
