@@ -1,5 +1,5 @@
 -- What filling a store leaves, when it is refused, and what the refusal is called. Assumes nothing.
-use Rattle.std.specs.Prelude.{◌≡◌, ℕ, ◌<◌, ◌≤◌, List, Ok, Err, Result, ◌≢◌}
+use Rattle.std.specs.Prelude.{◌≡◌, ℕ, ◌<◌, ◌≤◌, List, Ok, Err, Result, ◌≢◌, slice_index}
 use Rattle.refusal.specs.declared.Layer.TheVariants.{Bay}
 use Rattle.refusal.specs.declared.Refusal.{Refusal}
 use Rattle.bay.specs.declared.fault.BayFault.{BayFault}
@@ -12,6 +12,12 @@ abbrev pub Filling : {S : Type 0} → (S → ℕ → List ℕ) → ℕ → ℕ �
 Filling reads s n most list before (Ok _) after =
     (s < 8) × (n ≤ most) × (reads after s ≡ list) × ((k : ℕ) → (k ≢ s) → reads after k ≡ reads before k)
 Filling reads s n most list before (Err e) after = (e ≡ Over s) × (s < 8 → n ≤ most → ⊥) × (after ≡ before)
+
+-- Store s of a table of counts is set to n, under the same rule.
+abbrev pub Counted : ℕ → ℕ → List ℕ → Result Unit BayFault → List ℕ → Type 0
+Counted s n before (Ok _) after =
+    (s < 8) × (n ≤ 9999) × (slice_index after s ≡ n) × ((k : ℕ) → (k ≢ s) → slice_index after k ≡ slice_index before k)
+Counted s n before (Err e) after = (e ≡ Over s) × (s < 8 → n ≤ 9999 → ⊥)
 
 -- number, layer and place of a refusal
 abbrev pub refused : BayFault → Refusal

@@ -10,16 +10,16 @@ pub enum BayFault {
     Over(u8),
 }
 
-impl BayFault {
-    // The fault by its number, layer and place.
-    pub fn refusal(self) -> Refusal
-        ensures { result ≡ refused self }
-    {
-        match self {
+// The fault by its number, layer and place.
+impl From<BayFault> for Refusal {
+    ghost from_gives = { λ e r. r ≡ refused e };
+
+    fn from(e: BayFault) -> Refusal {
+        match e {
             BayFault::Over(store) => Refusal {
                 number: 17,
                 layer: Layer::Bay,
-                place: store as usize,
+                place: usize::from(store),
             },
         }
     }

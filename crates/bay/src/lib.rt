@@ -5,6 +5,7 @@ ghost use Rattle.std.specs.Prelude.{◌≡◌, ℕ, ◌^◌, ◌<◌, ◌≤◌,
 ghost use Rattle.bay.specs.Readings.{Draws, DrawsInto, Unmoved, Words};
 
 pub mod counter;
+mod counts;
 pub mod fault;
 pub mod kept_back;
 mod roll;
@@ -47,13 +48,11 @@ pub trait Bay {
 pub fn draw_into<B: Bay>(bay: &mut B, store: u8, places: &mut [u32]) -> usize
     ensures { DrawsInto (B.readings bay.old) store places.old result places.new (B.readings bay.new) }
 {
-    let mut came = 0;
-    while came < places.len() {
+    for (came, place) in places.iter_mut().enumerate() {
         let Some(reading) = bay.draw(store) else {
             return came;
         };
-        places[came] = reading;
-        came += 1;
+        *place = reading;
     }
-    came
+    places.len()
 }

@@ -1,10 +1,11 @@
 use super::*;
+use refusal::Refusal;
 use std::process::Abort;
 use std::test::Fail;
 
 // Draws a store to its end, and once past it.
 fn runs_out<B: Bay>(rt: &impl Abort, bay: &mut B, store: u8, expected: &[u32]) {
-    assert_eq!(rt; bay.stock(store) as usize, expected.len());
+    assert_eq!(rt; usize::from(bay.stock(store)), expected.len());
     let mut places = [77; 4];
     let came = draw_into(bay, store, &mut places);
     assert_eq!(rt; &places[0..came], expected);
@@ -64,7 +65,7 @@ fn layers_run_out(rt: HostRuntime) -> Result<(), Fail> {
 
 #[test]
 fn faults_are_told(rt: HostRuntime) {
-    let told = BayFault::Over(8).refusal();
+    let told = Refusal::from(BayFault::Over(8));
     assert_eq!(rt; told.number, 17);
     assert_eq!(rt; told.layer.name(), "bay");
     assert_eq!(rt; told.place, 8);

@@ -1,11 +1,6 @@
 use Rattle.std.proofs.Common.{arith}
-use Rattle.bay.proofs.Drawing.{midway_more, midway_empty}
+use Rattle.bay.proofs.Drawing.{midway_more}
 use Rattle.bay.proofs.draw_into.Goals as goal
-
-pub returns-in_default : goal.returns-in_default
-returns-in_default g c =
-    midway_empty (g.B.Bay.readings c.args.bay.now) c.args.store c.args.places.now c.loop-came.came c.loop-came.places
-    (g.B.Bay.readings c.loop-came.bay) (g.B.Bay.readings c.draw.new.self) c.loop-came.invariant c.in_default.ensures.draws
 
 pub loop-came-preserved : goal.loop-came-preserved
 loop-came-preserved g c =
