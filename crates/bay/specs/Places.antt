@@ -1,8 +1,8 @@
 -- Facts of a list of numbers, place by place. Assumes nothing.
-use Rattle.std.specs.Prelude.{◌≡◌, ℕ, zero, suc, ◌+◌, ◌<◌, ◌≤◌, List, [], ◌∷◌, ◌++◌, length, take, drop, replicate, slice_index, slice_set, refl}
+use Rattle.std.specs.Prelude.{◌≡◌, ℕ, zero, suc, ◌+◌, ◌-◌, ◌<◌, ◌≤◌, List, [], ◌∷◌, ◌++◌, length, take, drop, replicate, reverse, slice_index, slice_set, refl}
 use Rattle.std.proofs.Common.{sym, subst, ◌∙◌, ⊎_elim, arith}
-use Rattle.std.proofs.lemmas.Bool.{cases_eq}
-use Rattle.std.proofs.lemmas.List.{get_or-drop, get_or-set_same, get_or-set_other}
+use Rattle.std.proofs.lemmas.Bool.{cases_eq, cases_lt}
+use Rattle.std.proofs.lemmas.List.{get_or-drop, get_or-reverse, get_or_past, length-reverse, get_or-set_same, get_or-set_other}
 
 -- a list of zeros reads 0 everywhere, past its end too
 pub zeros : (n k : ℕ) → ◌≡◌ {A = ℕ} (slice_index (replicate n 0) k) 0
@@ -33,3 +33,11 @@ pub append_each : (P : ℕ → Type 0) (xs ys : List ℕ) → ((k : ℕ) → P (
 append_each P [] ys h g k = g k
 append_each P (x ∷ xs) ys h g zero = h 0
 append_each P (x ∷ xs) ys h g (suc k) = append_each P xs ys (λ j. h (suc j)) g k
+
+-- what holds at every place of a list holds at every place of the list turned round
+pub reverse_each : (P : ℕ → Type 0) (xs : List ℕ) → ((k : ℕ) → P (slice_index xs k)) → (k : ℕ) → P (slice_index (reverse xs) k)
+reverse_each P xs h k =
+    ⊎_elim
+    (λ within. subst P (sym (get_or-reverse xs k 0 within)) (h (length xs - 1 - k)))
+    (λ past. subst P (get_or_past xs k 0 past ∙ sym (get_or_past (reverse xs) k 0 (omega (arith, length-reverse xs)))) (h k))
+    (cases_lt k (length xs))

@@ -54,9 +54,9 @@ Words xs = (i : ℕ) → slice_index xs i < 2 ^ 32
 abbrev pub roll_left : List ℕ → ℕ → ℕ → List ℕ
 roll_left serials at end = slice_range serials at end
 
--- a roll's table has 32 places, and what is left of it ends within them
-abbrev pub RollOk : List ℕ → ℕ → ℕ → Type 0
-RollOk serials at end = (length serials ≡ 32) × (at ≤ end) × (end ≤ 32) × Words serials
+-- at most 32 serial numbers, of 32 bits each
+abbrev pub RollHolds : List ℕ → Type 0
+RollHolds serials = (length serials ≤ 32) × Words serials
 
 -- taking the next serial number off a roll
 abbrev pub Shortens : List ℕ → Option ℕ → List ℕ → Type 0

@@ -1,14 +1,13 @@
 -- Facts of rolls and of a table of them. Assumes nothing.
-use Rattle.std.specs.Prelude.{◌≡◌, ℕ, zero, suc, ◌+◌, ◌-◌, ◌^◌, ◌<◌, ◌≤◌, true, false, cond, List, [], ◌∷◌, ◌++◌, length, drop, set, replicate, Some, None, Option, ◌≢◌, nat_lt, slice_index, slice_index_or, slice_set, refl}
+use Rattle.std.specs.Prelude.{◌≡◌, ℕ, zero, suc, ◌+◌, ◌-◌, ◌^◌, ◌<◌, ◌≤◌, true, false, cond, List, [], ◌∷◌, ◌++◌, length, set, replicate, Some, None, Option, ◌≢◌, nat_lt, slice_index, slice_index_or, slice_set, refl}
 use Rattle.std.proofs.Common.{sym, ap, ◌∙◌, ⊎_elim, not-suc-le-zero, le_of_suc-le-suc, arith, lt-ltb}
 use borrow.Rule.Slice.PartMut.{post_of}
 use Rattle.std.proofs.lemmas.Bool.{cases_eq}
-use Rattle.std.proofs.lemmas.List.{length-take, length-drop, get_or-drop, drop_more, set-get_or, length-append, take_at}
+use Rattle.std.proofs.lemmas.List.{length-drop, drop_more, set-get_or, length-append, length-reverse, take_at}
 use Rattle.bay.specs.Readings.{Draws, Shortens, Unmoved, Words, roll_left}
 use Rattle.bay.specs.Rolls.{roll_of, roll_at, roll_readings}
 use Rattle.bay.specs.declared.roll.Roll.{Roll}
-use Rattle.bay.specs.Keeping.{take_words}
-use Rattle.bay.specs.Places.{append_each, zeros_left}
+use Rattle.bay.specs.Places.{append_each, reverse_each, zeros_left}
 
 pub roll_next : (serials : List ℕ) (i e : ℕ) → i < e → e ≤ 32 → length serials ≡ 32 → roll_left serials i e ≡ slice_index serials i ∷ roll_left serials (i + 1) e
 roll_next serials i e h small long =
@@ -30,10 +29,10 @@ table_of xs ys e few w =
     )
 
 roll_short : (r : Roll) → length (roll_of r) ≤ 32
-roll_short r = simp length-take (omega (arith, r.ok.2))
+roll_short r = omega (arith, length-reverse r.serials.items, r.holds.0)
 
 roll_words : (r : Roll) → Words (roll_of r)
-roll_words r = take_words (r.end - r.at) (drop r.at r.serials) (λ i. rw (get_or-drop r.at r.serials i 0) (r.ok.3 (r.at + i)))
+roll_words r = reverse_each (λ n. n < 2 ^ 32) r.serials.items r.holds.1
 
 -- a table of rolls, by places
 pub roll_at_get : (rs : List Roll) (k : ℕ) (d : Roll) → k < length rs → roll_at rs k ≡ roll_of (slice_index_or rs k d)

@@ -1,10 +1,10 @@
 -- The readings that a roll, and a table of rolls, has to come. Assumes nothing.
-use Rattle.std.specs.Prelude.{ℕ, zero, suc, cond, List, [], ◌∷◌, nat_lt}
-use Rattle.bay.specs.Readings.{roll_left}
+use Rattle.std.specs.Prelude.{ℕ, zero, suc, cond, List, [], ◌∷◌, reverse, nat_lt}
 use Rattle.bay.specs.declared.roll.Roll.{Roll}
 
+-- a roll is held from its last serial number to its next
 abbrev pub roll_of : Roll → List ℕ
-roll_of r = roll_left r.serials r.at r.end
+roll_of r = reverse r.serials.items
 
 abbrev pub roll_at : List Roll → ℕ → List ℕ
 roll_at [] k = []

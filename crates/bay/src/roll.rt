@@ -1,12 +1,13 @@
-ghost use Rattle.bay.specs.Readings.{RollOk};
+ghost use Rattle.bay.specs.Readings.{RollHolds};
 
 mod methods;
 
-// Up to 32 serial numbers; those from place `at` up to place `end` are to come.
-#[derive(Clone, Copy)]
+use crate::MOST_SERIALS;
+use arrayvec::ArrayVec;
+
+// The serial numbers to come, the next one last, so that `pop` takes it.
+#[derive(Drop)]
 pub struct Roll {
-    serials: [u32; 32],
-    at: u8,
-    end: u8,
-    ghost ok: { RollOk serials at end },
+    serials: ArrayVec<u32, MOST_SERIALS>,
+    ghost holds: { RollHolds serials.items },
 }

@@ -7,6 +7,7 @@ ghost use Rattle.std.proofs.Common.{rules};
 
 use crate::roll::Roll;
 use crate::{Bay, BayFault, STORES};
+use std::array;
 
 // The most serial numbers that a roll takes.
 pub const MOST_SERIALS: usize = 32;
@@ -26,18 +27,14 @@ impl Bay for RollBay {
     ghost words = { λ b k. rolls_words b.rolls k };
 
     fn stock(&self, store: u8) -> u16 {
-        if store < STORES {
-            self.rolls[store as usize].left()
-        } else {
-            0
-        }
+        self.rolls.get(usize::from(store)).map_or(0, Roll::left)
     }
 
     fn draw(&mut self, store: u8) -> Option<u32> {
         if store >= STORES {
             return None;
         }
-        let roll = &mut self.rolls[store as usize];
+        let roll = &mut self.rolls[usize::from(store)];
         roll.shorten()
     }
 }
@@ -48,7 +45,7 @@ impl RollBay {
         ensures { (k : ℕ) → roll_readings result.rolls k ≡ [] }
     {
         RollBay {
-            rolls: [Roll::of(&[]); 8],
+            rolls: array::from_fn(|_| Roll::new()),
         }
     }
 
@@ -56,10 +53,11 @@ impl RollBay {
     pub fn fill(&mut self, store: u8, serials: &[u32]) -> Result<(), BayFault>
         ensures { Filling (λ (b : RollBay). roll_readings b.rolls) store (length serials.now) 32 serials.now self.old result self.new }
     {
-        if store >= STORES || serials.len() > MOST_SERIALS {
-            return Err(BayFault::Over(store));
+        let over = BayFault::Over(store);
+        if store >= STORES {
+            return Err(over);
         }
-        self.rolls[store as usize] = Roll::of(serials);
+        self.rolls[usize::from(store)] = Roll::try_from(serials).map_err(|_| over)?;
         Ok(())
     }
 }

@@ -1,28 +1,36 @@
-ghost use Rattle.std.specs.Prelude.{◌≡◌, ◌≤◌, [], length};
+ghost use Rattle.std.specs.Prelude.{◌≡◌, ◌<◌, ◌≤◌, [], length, MatchResult};
 ghost use Rattle.bay.specs.Readings.{Shortens, Unmoved};
 ghost use Rattle.bay.specs.Rolls.{roll_of};
 
 use super::Roll;
+use arrayvec::{ArrayVec, CapacityError};
+
+// A roll with these serial numbers to come, in their order.
+impl TryFrom<&[u32]> for Roll {
+    type Error = CapacityError;
+
+    ghost try_from_gives = { λ s r. MatchResult r (λ roll. (roll_of roll ≡ s.now) × (length s.now ≤ 32)) (λ _. 32 < length s.now) };
+
+    fn try_from(serials: &[u32]) -> Result<Roll, CapacityError> {
+        let mut serials = ArrayVec::try_from(serials)?;
+        serials.reverse();
+        Ok(Roll { serials })
+    }
+}
 
 impl Roll {
-    // A roll with these serial numbers to come, in their order.
-    pub(crate) fn of(serials: &[u32]) -> Roll
-        requires { length serials.now ≤ 32 }
-        ensures { roll_of result ≡ serials.now }
+    pub(crate) fn new() -> Roll
+        ensures { roll_of result ≡ [] }
     {
-        let mut table = [0; 32];
-        table[0..serials.len()].copy_from_slice(serials);
         Roll {
-            serials: table,
-            at: 0,
-            end: serials.len() as u8,
+            serials: ArrayVec::new(),
         }
     }
 
     pub(crate) fn left(&self) -> u16
         ensures { result ≡ length (roll_of self.now) }
     {
-        u16::from(self.end - self.at)
+        self.serials.len() as u16
     }
 
     // Takes the next serial number off; none, and nothing changed, at the end.
@@ -30,11 +38,6 @@ impl Roll {
         ensures shortens { Shortens (roll_of self.old) result (roll_of self.new) }
         ensures refused { Unmoved result self.old self.new }
     {
-        if self.at >= self.end {
-            return None;
-        }
-        let next = self.serials[self.at as usize];
-        self.at += 1;
-        Some(next)
+        self.serials.pop()
     }
 }
