@@ -1,8 +1,8 @@
 -- What a draw tells of the readings before and after it, for every bay. Assumes nothing.
 use Rattle.std.proofs.Common.{◌≡◌, ℕ, suc, ◌+◌, ◌-◌, ◌^◌, ◌<◌, ◌≤◌, Bool, true, false, cond, eqb, List, [], ◌∷◌, ◌++◌, length, get_or, take, drop, set, Some, None, Option, sym, refl, ap, ◌∙◌, subst, arith}
-use Rattle.std.proofs.lemmas.List.{drop_more, drop_all, take_all, take_more, set_at, append_assoc, length-drop, length-take}
+use Rattle.std.proofs.lemmas.List.{drop_more, take_more, set_at, append_assoc, length-drop, length-take}
 use Rattle.std.proofs.lemmas.Bool.Decides.{nat_tests}
-use Rattle.bay.specs.Readings.{Draws, DrawsInto, Unmoved, Words}
+use Rattle.bay.specs.Readings.{Draws, DrawsInto, Words}
 
 -- the stock of the store drawn from is one less after it
 pub stock_after : (f f' : ℕ → List ℕ) (s x : ℕ) → Draws f s (Some x) f' → length (f s) ≡ suc (length (f' s))
@@ -59,11 +59,6 @@ into_stock f f' s came places filled h =
     let n = h.count in
     omega arith
 
--- a part of a bay that did not move leaves the whole as it was
-pub unmoved_whole : {S T : Type 0} (F : S → T) (o : Option ℕ) (b b' : S) → Unmoved o b b' → Unmoved o (F b) (F b')
-unmoved_whole F None b b' h = ap F h
-unmoved_whole F (Some x) b b' h = tt
-
 -- Drawing into a list, when `came` readings stand in front.
 pub record Midway (first : ℕ → List ℕ) (s : ℕ) (room : List ℕ) (came : ℕ) (places : List ℕ) (left : ℕ → List ℕ) : Type 0 where
   pub there : came ≤ length (first s)
@@ -71,9 +66,6 @@ pub record Midway (first : ℕ → List ℕ) (s : ℕ) (room : List ℕ) (came :
   pub told : places ≡ take came (first s) ++ drop came room
   pub rest : left s ≡ drop came (first s)
   pub others : (k : ℕ) → (k ≡ s → ⊥) → left k ≡ first k
-
-pub midway_start : (first : ℕ → List ℕ) (s : ℕ) (room : List ℕ) → Midway first s room 0 room first
-midway_start first s room = record { there = omega arith; fits = omega arith; told = refl; rest = refl; others = λ k ne. refl }
 
 pub midway_more : (first : ℕ → List ℕ) (s : ℕ) (room : List ℕ) (came : ℕ) (places : List ℕ) (left left' : ℕ → List ℕ) (x : ℕ)
     → came < length room → Midway first s room came places left → Draws left s (Some x) left' → Midway first s room (came + 1) (set places came x) left'
@@ -94,32 +86,4 @@ midway_more first s room came places left left' x lt m d =
           ∙ ap (λ l. l ++ drop (came + 1) room) (sym (take_more (first s) came 0 w));
       rest = ap (drop 1) split;
       others = λ k ne. d.1 k ne ∙ m.others k ne;
-    }
-
--- every place is taken
-pub midway_full : (first : ℕ → List ℕ) (s : ℕ) (room : List ℕ) (came : ℕ) (places : List ℕ) (left : ℕ → List ℕ)
-    → length room ≤ came → Midway first s room came places left → DrawsInto first s room came places left
-midway_full first s room came places left h m =
-    let e : came ≡ length room = omega arith in
-    record {
-      count = omega arith;
-      told = m.told ∙ ap (λ n. take n (first s) ++ drop came room) e;
-      left = m.rest ∙ ap (λ n. drop n (first s)) e;
-      others = m.others;
-    }
-
--- the store is empty
-pub midway_empty : (first : ℕ → List ℕ) (s : ℕ) (room : List ℕ) (came : ℕ) (places : List ℕ) (left left' : ℕ → List ℕ)
-    → Midway first s room came places left → Draws left s None left' → DrawsInto first s room came places left'
-midway_empty first s room came places left left' m d =
-    let e : drop came (first s) ≡ [] = sym m.rest ∙ d.0 in
-    let n : length (first s) - came ≡ 0 = sym (length-drop came (first s)) ∙ ap length e in
-    let all : length (first s) ≤ came = omega arith in
-    let fit = m.fits in
-    let long : length (first s) ≤ length room = omega arith in
-    record {
-      count = let t = m.there in omega arith;
-      told = m.told ∙ ap (λ l. l ++ drop came room) (take_all came (first s) all ∙ sym (take_all (length room) (first s) long));
-      left = d.1 s ∙ d.0 ∙ sym (drop_all (length room) (first s) long);
-      others = λ k ne. d.1 k ∙ m.others k ne;
     }

@@ -50,7 +50,7 @@ DrawsUnder below s (Some x) below' = Draws below s (Some x) below'
 abbrev pub Words : List ℕ → Type 0
 Words xs = (i : ℕ) → slice_index xs i < 2 ^ 32
 
--- a roll's serial numbers from place `at` up to place `end`
+-- the numbers of a table from place `at` up to place `end`
 abbrev pub roll_left : List ℕ → ℕ → ℕ → List ℕ
 roll_left serials at end = slice_range serials at end
 

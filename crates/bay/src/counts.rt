@@ -29,6 +29,7 @@ impl Counts {
         ensures counted { Counted store count self.old.each result self.new.each }
         ensures refused { OnErr result (self.new ≡ self.old) }
     {
+        // A slice's `get_mut` tells nothing of what is written through it, so the store is tested by hand.
         if store >= STORES || count > MOST_READINGS {
             return Err(BayFault::Over(store));
         }

@@ -31,6 +31,7 @@ impl Bay for RollBay {
     }
 
     fn draw(&mut self, store: u8) -> Option<u32> {
+        // A slice's `get_mut` tells nothing of what is written through it, so the store is tested by hand.
         if store >= STORES {
             return None;
         }
@@ -54,6 +55,7 @@ impl RollBay {
         ensures { Filling (λ (b : RollBay). roll_readings b.rolls) store (length serials.now) 32 serials.now self.old result self.new }
     {
         let over = BayFault::Over(store);
+        // tested by hand, as in `draw`
         if store >= STORES {
             return Err(over);
         }

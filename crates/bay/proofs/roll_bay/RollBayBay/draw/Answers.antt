@@ -4,4 +4,4 @@ use Rattle.bay.proofs.roll_bay.RollBayBay.draw.Goals as goal
 
 pub returns-clause-draws : goal.returns-clause-draws
 returns-clause-draws c =
-    rw c.from.ensures (roll_draw c.args.self.now.rolls c.args.store c.shorten.result c.index-self-from.result _ c.if-store-ge-STORES.false (search rules) (search rules))
+    rw c.from.ensures (roll_draw _ c.args.store _ c.index-self-from.result _ c.if-store-ge-STORES.false (search rules) (search rules))
