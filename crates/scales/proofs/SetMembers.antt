@@ -30,13 +30,13 @@ count_of : (m n : ℕ) → bounded m ≡ Count n → (m ≡ n) × (m < 15)
 count_of m n e =
     elim (cases_Bool (ltb m 15)) [
       | inl t ↦ (let q : Count m ≡ Count n = sym (cond-true (ltb m 15) (Count m) Unbounded t) ∙ e in (cc, ltb-true m 15 t))
-      | inr f ↦ (let q : Unbounded ≡ Count n = sym (cond-false (ltb m 15) (Count m) Unbounded f) ∙ e in let z : ◌≡◌ {A = ℕ} 0 1 = cc in absurd (omega arith))
+      | inr f ↦ (let q : Unbounded ≡ Count n = sym (cond-false (ltb m 15) (Count m) Unbounded f) ∙ e in absurd (cc))
     ]
 
 unbounded_of : (m : ℕ) → bounded m ≡ Unbounded → 15 ≤ m
 unbounded_of m e =
     elim (cases_Bool (ltb m 15)) [
-      | inl t ↦ (let q : Count m ≡ Unbounded = sym (cond-true (ltb m 15) (Count m) Unbounded t) ∙ e in let z : ◌≡◌ {A = ℕ} 0 1 = cc in absurd (omega arith))
+      | inl t ↦ (let q : Count m ≡ Unbounded = sym (cond-true (ltb m 15) (Count m) Unbounded t) ∙ e in absurd (cc))
       | inr f ↦ ltb-false m 15 f
     ]
 

@@ -7,7 +7,6 @@ use Rattle.scales.proofs.rows.zip_into.Goals.{in-Some, in_default}
 pub loop-i-preserved : goal.loop-i-preserved
 loop-i-preserved g c = λ op acts.
     let kept = c.loop-i.invariant op acts in
-    let i = c.loop-i.i in
     elim c.match-get.branch [
       | in-Some w ↦ (
           let made = acts _ _ _ w.f.ensures in
