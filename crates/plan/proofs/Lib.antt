@@ -5,3 +5,4 @@ pub mod Walks
 pub mod More
 pub mod Kids
 pub mod Plans
+pub mod Types
