@@ -59,9 +59,9 @@ module _ (all types : ℕ) (gs : List FlatLeg) (binder : ℕ) (before new : List
       leg_is ∙ ap (λ g. then_read g made) (single_fails (all - length r2) (stack (nodes_of new)) r4 (ap (λ os. is_one (stack os)) (sym behind_is) ∙ sym c.one ∙ q))
 
   pub leg_made : (after : List Row) (r : Bool) (g : FlatLeg) (next : ℕ) → r ≡ true → Closed (length before) (before ++ new) after r → Standing 0 before
-      → params_of g ≡ ps → g.result ≡ y → g.binder.index ≡ binder → g.count ≡ k → k ≤ 8 → g.first ≡ length before → next ≡ binders_in (binder + k) (nodes_of new) → length r4 ≤ length bs
+      → params_of g ≡ ps → g.result ≡ y → g.binder.index ≡ binder → k ≤ 8 → g.first ≡ length before → next ≡ binders_in (binder + k) (nodes_of new) → length r4 ≤ length bs
       → LegRead all types gs binder bs before after g next r4
-  leg_made after r g next q c s ep ey eb ec few ef en sh =
+  leg_made after r g next q c s ep ey eb few ef en sh =
       let one : is_one (stack (nodes_of new)) ≡ true = ap (λ os. is_one (stack os)) (sym behind_is) ∙ sym c.one ∙ q in
       let w = single_gives (all - length r2) (stack (nodes_of new)) r4 one in
       let t = top (stack (nodes_of new)) in
@@ -75,8 +75,7 @@ module _ (all types : ℕ) (gs : List FlatLeg) (binder : ℕ) (before new : List
       record {
         is = leg_is ∙ ap (λ h. then_read h made) w.0 ∙ (let z : made t r4 ≡ Ok (leg_in after g, r4) = made_is t (sym tree) in z);
         next_is = en ∙ ap₂ (λ m os. binders_in (binder + m) os) (ek ∙ ap length (sym ep)) (sym flat_in);
-        few = subst (λ m. m ≤ 8) (sym ec) few;
-        counted = ap length ep ∙ sym ek ∙ sym ec;
+        few = subst (λ m. m ≤ 8) (ek ∙ ap length (sym ep)) few;
         first_is = ef;
         shorter = sh;
         stands = standing_more before after (nodes_of new) s st candidates kept;
@@ -98,7 +97,7 @@ legs_kept p before after (g ∷ gs) b k =
     (legs_kept (p + node_size (term_at before p)) before after gs b.3 k)
 
 pub order_push : (p : ℕ) (before after : List Row) (gs : List FlatLeg) (g : FlatLeg) → ((i : ℕ) → i < length before → term_at after i ≡ term_at before i) → InOrder p before gs
-    → g.first ≡ length before → g.count ≤ 8 → length before < length after → length after ≡ length before + node_size (term_at after (length before)) → InOrder p after (gs ++ (g ∷ []))
+    → g.first ≡ length before → length (params_of g) ≤ 8 → length before < length after → length after ≡ length before + node_size (term_at after (length before)) → InOrder p after (gs ++ (g ∷ []))
 order_push p before after [] g k b first few more size =
     (first ∙ sym b, subst (λ x. x < length after) (sym b) more, few, ap (λ x. x + node_size (term_at after x)) b ∙ sym size)
 order_push p before after (h ∷ gs) g k b first few more size =
@@ -109,15 +108,15 @@ order_push p before after (h ∷ gs) g k b first few more size =
       subst (λ t. InOrder (p + node_size t) after (gs ++ (g ∷ []))) (sym (k p lt)) (order_push (p + node_size (term_at before p)) before after gs g k b.3 first few more size),
     )
 
-arities_push : (gs : List FlatLeg) (g : FlatLeg) → arities_of (gs ++ (g ∷ [])) ≡ arities_of gs ++ (g.count ∷ [])
+arities_push : (gs : List FlatLeg) (g : FlatLeg) → arities_of (gs ++ (g ∷ [])) ≡ arities_of gs ++ (length (params_of g) ∷ [])
 arities_push [] g = refl
-arities_push (h ∷ gs) g = ap (λ l. h.count ∷ l) (arities_push gs g)
+arities_push (h ∷ gs) g = ap (λ l. length (params_of h) ∷ l) (arities_push gs g)
 
 -- the state after a leg
-pub state_next : (gs : List FlatLeg) (binder : ℕ) (before after : List Row) (g : FlatLeg) (next : ℕ) → length (params_of g) ≡ g.count → next ≡ (with_leg (before_of gs binder before) (leg_in after g)).next
+pub state_next : (gs : List FlatLeg) (binder : ℕ) (before after : List Row) (g : FlatLeg) (next : ℕ) → next ≡ (with_leg (before_of gs binder before) (leg_in after g)).next
     → length after ≡ (with_leg (before_of gs binder before) (leg_in after g)).used → with_leg (before_of gs binder before) (leg_in after g) ≡ before_of (gs ++ (g ∷ [])) next after
-state_next gs binder before after g next ec en el =
-    ap (λ a. record { arities = a; next = (with_leg (before_of gs binder before) (leg_in after g)).next; used = (with_leg (before_of gs binder before) (leg_in after g)).used }) (ap (λ n. arities_of gs ++ (n ∷ [])) ec ∙ sym (arities_push gs g))
+state_next gs binder before after g next en el =
+    ap (λ a. record { arities = a; next = (with_leg (before_of gs binder before) (leg_in after g)).next; used = (with_leg (before_of gs binder before) (leg_in after g)).used }) (sym (arities_push gs g))
     ∙ ap₂ (λ n u. record { arities = arities_of (gs ++ (g ∷ [])); next = n; used = u }) (sym en) (sym el)
 
 binders_few : (o : Node) → binders o ≤ 2

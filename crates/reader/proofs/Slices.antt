@@ -1,13 +1,12 @@
 -- The front of a slice, and what is read there. Assumes nothing.
-use Rattle.std.proofs.Common.{◌≡◌, ℕ, zero, suc, ◌+◌, ◌-◌, ◌*◌, ◌<◌, ◌≤◌, true, false, cond, ◌||◌, eqb, leb, List, [], ◌∷◌, length, get_or, Some, None, Ok, Err, Option, Result, sym, refl, ap, ◌∙◌, subst, arith, Bor, le-ltb, lt-ltb, eq-eqb, ne_eqb, le-leb}
+use Rattle.std.proofs.Common.{◌≡◌, ℕ, zero, suc, ◌+◌, ◌-◌, ◌*◌, ◌<◌, ◌≤◌, true, cond, ◌||◌, eqb, leb, List, [], ◌∷◌, length, get_or, Some, None, Ok, Err, Option, Result, sym, refl, ap, ◌∙◌, subst, arith, Bor, le-ltb, lt-ltb, le-leb}
 use Rattle.std.proofs.lemmas.List.{take_rest}
 use Rattle.plan.specs.declared.faults.ReadFault.TheVariants.{Limit, «Ref»}
 use Rattle.plan.specs.declared.Type.{«Type» as Shape}
-use Rattle.plan.specs.Written.{listed}
-use Rattle.reader.specs.Reading.{Got, not_zero, by_shape, read_head, byte_if, read_type, between, read_count, node_of, then_read, new_entry, entry_of, read_entry}
+use Rattle.reader.specs.Reading.{Got, not_zero, by_shape, read_head, byte_if, read_type, between, read_count, typed_node, then_read, new_entry, entry_of, read_entry}
 use Rattle.plan.specs.declared.faults.ReadFault.{ReadFault}
-use Rattle.plan.specs.declared.Type.TheVariants.{Pair as PairType, Either as EitherType}
 use Rattle.plan.specs.declared.Leg.{Leg as FlatLeg}
+use Rattle.plan.specs.declared.Node.{Node}
 use Rattle.plan.specs.declared.Node.TheVariants.{Call}
 use Rattle.std.proofs.lemmas.Bool.{and_from}
 use Rattle.plan.specs.declared.TypeId.{TypeId}
@@ -16,6 +15,9 @@ use Rattle.plan.specs.Limits.{max_nodes}
 use Rattle.plan.proofs.Fronts.{rest_of}
 use Rattle.plan.specs.declared.kinds.Field.{Field}
 use Rattle.plan.specs.Kinds.{shape_of}
+use Rattle.plan.specs.Kinds.{number_of}
+use Rattle.plan.specs.declared.kinds.NodeKind.{NodeKind}
+use Rattle.plan.specs.Plans.{params_of}
 use Rattle.reader.specs.Replies.{arities_of, ValueAnswer, HeadAnswer}
 
 pub front2 : (bs : List ℕ) → 2 ≤ length bs → bs ≡ get_or bs 0 0 ∷ get_or bs 1 0 ∷ rest_of 2 bs
@@ -52,41 +54,34 @@ pub arities_length : (gs : List FlatLeg) → length (arities_of gs) ≡ length g
 arities_length [] = refl
 arities_length (g ∷ gs) = ap suc (arities_length gs)
 
-pub arities_at : (gs : List FlatLeg) (i : ℕ) (d : FlatLeg) → i < length gs → get_or (arities_of gs) i 0 ≡ (get_or gs i d).count
+pub arities_at : (gs : List FlatLeg) (i : ℕ) (d : FlatLeg) → i < length gs → get_or (arities_of gs) i 0 ≡ length (params_of (get_or gs i d))
 arities_at [] i d h = absurd (omega arith)
 arities_at (g ∷ gs) zero d h = refl
 arities_at (g ∷ gs) (suc i) d h = arities_at gs i d (omega arith)
 
-pub call_there : (types k v : ℕ) (gs : List FlatLeg) (d : FlatLeg) → v < length gs → Some (Call (the_leg v) (get_or gs v d).count) ≡ node_of types (arities_of gs) k 10 v
-call_there types k v gs d lt =
+abbrev pub call_of : ℕ → List FlatLeg → Option Node
+call_of v gs = typed_node (length (arities_of gs)) v (Call (the_leg v) (get_or (arities_of gs) v 0))
+
+pub call_there : (v : ℕ) (gs : List FlatLeg) (d : FlatLeg) → v < length gs → Some (Call (the_leg v) (length (params_of (get_or gs v d)))) ≡ call_of v gs
+call_there v gs d lt =
     let e = arities_length gs in
     ap (λ n. Some (Call (the_leg v) n)) (sym (arities_at gs v d lt)) ∙ sym (ap (λ b. cond b (Some (Call (the_leg v) (get_or (arities_of gs) v 0))) None) (lt-ltb v (length (arities_of gs)) (omega arith)))
 
-pub call_not : (types k v : ℕ) (gs : List FlatLeg) → length gs ≤ v → None ≡ node_of types (arities_of gs) k 10 v
-call_not types k v gs le =
+pub call_not : (v : ℕ) (gs : List FlatLeg) → length gs ≤ v → None ≡ call_of v gs
+call_not v gs le =
     let e = arities_length gs in
     sym (ap (λ b. cond b (Some (Call (the_leg v) (get_or (arities_of gs) v 0))) None) (le-ltb v (length (arities_of gs)) (omega arith)))
 
-pub entry_breaks : (all : ℕ) (ts : List Shape) (tag : ℕ) (rest : List ℕ) (f : ReadFault) → (eqb tag 1 || eqb tag 2) ≡ true → read_type all (length ts) rest ≡ Err f → read_entry all ts (tag ∷ rest) ≡ Err f
-entry_breaks all ts tag rest f t e =
-    ap (λ b. then_read (cond {A = Got ℕ} b (Ok (tag, rest)) (Err («Ref» (all - length (tag ∷ rest))))) (λ tag r.
-    then_read (read_type all (length ts) r) (λ a r'. then_read (read_type all (length ts) r') (λ b r''. new_entry (all - length (tag ∷ rest)) ts (entry_of tag a b) r'')))) t
-    ∙ ap (λ g. then_read g (λ a r'. then_read (read_type all (length ts) r') (λ b r''. new_entry (all - length (tag ∷ rest)) ts (entry_of tag a b) r''))) e
-
-pub entry_there : (all : ℕ) (ts : List Shape) (tag : ℕ) (a b : TypeId) (rest r r' : List ℕ) → (eqb tag 1 || eqb tag 2) ≡ true → read_type all (length ts) rest ≡ Ok (a, r) → read_type all (length ts) r ≡ Ok (b, r') → listed (entry_of tag a b) ts ≡ false
-    → read_entry all ts (tag ∷ rest) ≡ Ok (entry_of tag a b, r')
-entry_there all ts tag a b rest r r' t e f n =
-    ap (λ b. then_read (cond {A = Got ℕ} b (Ok (tag, rest)) (Err («Ref» (all - length (tag ∷ rest))))) (λ tag r.
+-- an entry, once its tag and its two types are read
+pub entry_read : (all : ℕ) (ts : List Shape) (bs : List ℕ) (tag : ℕ) (a b : TypeId) (rest r r' : List ℕ) → bs ≡ tag ∷ rest → (eqb tag 1 || eqb tag 2) ≡ true → read_type all (length ts) rest ≡ Ok (a, r) → read_type all (length ts) r ≡ Ok (b, r')
+    → read_entry all ts bs ≡ new_entry (all - length bs) ts (entry_of tag a b) r'
+entry_read all ts bs tag a b rest r r' q t e f =
+    ap (λ l. read_entry all ts l) q
+    ∙ ap (λ b. then_read (cond {A = Got ℕ} b (Ok (tag, rest)) (Err («Ref» (all - length (tag ∷ rest))))) (λ tag r.
     then_read (read_type all (length ts) r) (λ a r'. then_read (read_type all (length ts) r') (λ b r''. new_entry (all - length (tag ∷ rest)) ts (entry_of tag a b) r'')))) t
     ∙ ap (λ g. then_read g (λ a r'. then_read (read_type all (length ts) r') (λ b r''. new_entry (all - length (tag ∷ rest)) ts (entry_of tag a b) r''))) e
     ∙ ap (λ g. then_read g (λ b r''. new_entry (all - length (tag ∷ rest)) ts (entry_of tag a b) r'')) f
-    ∙ ap (λ b'. cond {A = Got Shape} b' (Err («Ref» (all - length (tag ∷ rest)))) (Ok (entry_of tag a b, r'))) n
-
-pub entry_either : (tag : ℕ) (a b : TypeId) → (tag ≡ 1 → ⊥) → EitherType a b ≡ entry_of tag a b
-entry_either tag a b ne = sym (ap (λ t. cond t (PairType a b) (EitherType a b)) (ne_eqb tag 1 ne))
-
-pub entry_pair : (tag : ℕ) (a b : TypeId) → tag ≡ 1 → PairType a b ≡ entry_of tag a b
-entry_pair tag a b e = sym (ap (λ t. cond t (PairType a b) (EitherType a b)) (eq-eqb tag 1 e))
+    ∙ ap (λ l. new_entry (all - length l) ts (entry_of tag a b) r') (sym q)
 
 -- a node's first byte, once its shape is known
 pub head_by : (all : ℕ) (bs : List ℕ) (h : ℕ) (rest : List ℕ) (s : Option (ℕ × Field)) → bs ≡ h ∷ rest → shape_of h ≡ s → read_head all bs ≡ by_shape all (all - length bs) s rest
@@ -94,8 +89,8 @@ head_by all bs h rest s e q =
     ap (read_head all) e ∙ ap (λ x. by_shape all (all - length (h ∷ rest)) x rest) q ∙ ap (λ l. by_shape all (all - length l) s rest) (sym e)
 
 -- What a written field gives is what its node's first byte gives.
-pub valued : (all at k v : ℕ) (bs rest : List ℕ) (r : Result (ℕ × ℕ × Bor (List ℕ)) ReadFault) → read_head all bs ≡ not_zero at k v rest → length rest < length bs → k ≤ 12 → ((k ≡ 1 → ⊥) → v < 256)
+pub valued : (all at : ℕ) (k : NodeKind) (v : ℕ) (bs rest : List ℕ) (r : Result (NodeKind × ℕ × Bor (List ℕ)) ReadFault) → read_head all bs ≡ not_zero at (number_of k) v rest → length rest < length bs → ((number_of k ≡ 1 → ⊥) → v < 256)
     → ValueAnswer at k v rest r → HeadAnswer bs (read_head all bs) r
-valued all at k v bs rest (Ok p) e short known small a =
-    (e ∙ a.0, subst (λ l. length l < length bs) (sym a.3) short, subst (λ x. x ≤ 12) (sym a.1) known, λ z. subst (λ x. x < 256) (sym a.2) (small (λ q. z (a.1 ∙ q))))
-valued all at k v bs rest (Err f) e short known small a = e ∙ a
+valued all at k v bs rest (Ok p) e short small a =
+    (e ∙ a.0, subst (λ l. length l < length bs) (sym a.3) short, λ z. subst (λ x. x < 256) (sym a.2) (small (λ q. z (ap number_of a.1 ∙ q))))
+valued all at k v bs rest (Err f) e short small a = e ∙ a

@@ -1,5 +1,5 @@
 -- What the reader's functions answer, beside what is defined. Assumes nothing.
-use Rattle.std.specs.Prelude.{◌≡◌, ℕ, ◌<◌, ◌≤◌, List, [], ◌∷◌, ◌++◌, length, take, drop, Ok, Err, Result, ◌≢◌}
+use Rattle.std.specs.Prelude.{◌≡◌, ℕ, ◌<◌, ◌≤◌, List, [], ◌∷◌, ◌++◌, length, drop, Ok, Err, Result, ◌≢◌}
 use Rattle.std.specs.Borrow.{Bor}
 use Rattle.plan.specs.declared.faults.ReadFault.{ReadFault}
 use Rattle.plan.specs.declared.faults.PlanFault.{PlanFault}
@@ -8,8 +8,11 @@ use Rattle.plan.specs.declared.Plan.{Plan as FlatPlan}
 use Rattle.plan.specs.declared.Leg.{Leg as FlatLeg}
 use Rattle.plan.specs.declared.Row.{Row}
 use Rattle.plan.specs.declared.TypeId.{TypeId}
+use Rattle.plan.specs.declared.kinds.NodeKind.{NodeKind}
+use Rattle.arrayvec.specs.ArrayVec.{ArrayVec}
 use Rattle.plan.specs.declared.Type.{«Type» as Shape}
 use Rattle.reader.specs.Reading.{Got, Head, not_zero, many, read_node, read_table, read_params, read_leg, read_legs, read_front, read}
+use Rattle.plan.specs.Kinds.{number_of}
 use Rattle.plan.specs.Written.{with_node, binders_in, built_in, Before, with_leg}
 use Rattle.plan.specs.Table.{nodes_of, term_at, Standing, InOrder}
 use Rattle.plan.specs.Plans.{params_of, leg_in, legs_in, plan_in, tree, Sound}
@@ -19,17 +22,17 @@ abbrev pub Answer : {X : Type 0} → List ℕ → Got X → Result (X × Bor (Li
 Answer bs g (Ok p) = (g ≡ Ok (p.0, p.1.now)) × (length p.1.now ≤ length bs)
 Answer bs g (Err e) = g ≡ Err e
 
-abbrev pub ValueAnswer : ℕ → ℕ → ℕ → List ℕ → Result (ℕ × ℕ × Bor (List ℕ)) ReadFault → Type 0
-ValueAnswer at k v rest (Ok p) = (not_zero at k v rest ≡ Ok (p.0, p.1, p.2.now)) × (p.0 ≡ k) × (p.1 ≡ v) × (p.2.now ≡ rest)
-ValueAnswer at k v rest (Err e) = not_zero at k v rest ≡ Err e
+abbrev pub ValueAnswer : ℕ → NodeKind → ℕ → List ℕ → Result (NodeKind × ℕ × Bor (List ℕ)) ReadFault → Type 0
+ValueAnswer at k v rest (Ok p) = (not_zero at (number_of k) v rest ≡ Ok (number_of p.0, p.1, p.2.now)) × (p.0 ≡ k) × (p.1 ≡ v) × (p.2.now ≡ rest)
+ValueAnswer at k v rest (Err e) = not_zero at (number_of k) v rest ≡ Err e
 
-abbrev pub HeadAnswer : List ℕ → Head → Result (ℕ × ℕ × Bor (List ℕ)) ReadFault → Type 0
-HeadAnswer bs g (Ok p) = (g ≡ Ok (p.0, p.1, p.2.now)) × (length p.2.now < length bs) × (p.0 ≤ 12) × ((p.0 ≢ 1) → p.1 < 256)
+abbrev pub HeadAnswer : List ℕ → Head → Result (NodeKind × ℕ × Bor (List ℕ)) ReadFault → Type 0
+HeadAnswer bs g (Ok p) = (g ≡ Ok (number_of p.0, p.1, p.2.now)) × (length p.2.now < length bs) × ((number_of p.0 ≢ 1) → p.1 < 256)
 HeadAnswer bs g (Err e) = g ≡ Err e
 
 abbrev pub arities_of : List FlatLeg → List ℕ
 arities_of [] = []
-arities_of (g ∷ gs) = g.count ∷ arities_of gs
+arities_of (g ∷ gs) = length (params_of g) ∷ arities_of gs
 
 -- Nodes read onto others.
 abbrev pub NodesAnswer : ℕ → ℕ → List ℕ → ℕ → ℕ → List ℕ → List Row → List Row → Result (ℕ × Bor (List ℕ)) ReadFault → Type 0
@@ -41,8 +44,8 @@ abbrev pub TableAnswer : ℕ → List ℕ → List Shape → Result (Bor (List �
 TableAnswer all bs after (Ok rest) = (es : List Shape) × (after ≡ built_in ++ es) × (read_table all bs ≡ Ok (es, rest.now)) × (length rest.now ≤ length bs)
 TableAnswer all bs after (Err e) = read_table all bs ≡ Err e
 
-abbrev pub ParamsAnswer : ℕ → ℕ → List ℕ → Result (List TypeId × ℕ × Bor (List ℕ)) ReadFault → Type 0
-ParamsAnswer all types bs (Ok p) = (read_params all types bs ≡ Ok (take p.1 p.0, p.2.now)) × (p.1 ≤ 8) × (length p.2.now ≤ length bs)
+abbrev pub ParamsAnswer : ℕ → ℕ → List ℕ → Result (ArrayVec TypeId × Bor (List ℕ)) ReadFault → Type 0
+ParamsAnswer all types bs (Ok p) = (read_params all types bs ≡ Ok (p.0.items, p.1.now)) × (length p.0.items ≤ 8) × (length p.1.now ≤ length bs)
 ParamsAnswer all types bs (Err e) = read_params all types bs ≡ Err e
 
 abbrev pub before_of : List FlatLeg → ℕ → List Row → Before
@@ -52,8 +55,7 @@ before_of gs binder ns = record { arities = arities_of gs; next = binder; used =
 pub record LegRead (all types : ℕ) (gs : List FlatLeg) (binder : ℕ) (bs : List ℕ) (before after : List Row) (g : FlatLeg) (next : ℕ) (rest : List ℕ) : Type 0 where
   pub is : read_leg all types (before_of gs binder before) bs ≡ Ok (leg_in after g, rest)
   pub next_is : next ≡ (with_leg (before_of gs binder before) (leg_in after g)).next
-  pub few : g.count ≤ 8
-  pub counted : length (params_of g) ≡ g.count
+  pub few : length (params_of g) ≤ 8
   pub first_is : g.first ≡ length before
   pub shorter : length rest ≤ length bs
   pub stands : Standing 0 after

@@ -1,20 +1,22 @@
 // The reader: plan bytes, front to back, into the tables of a plan, or the first fault.
 #![tactic(auto)]
 
-ghost use Rattle.std.specs.Prelude.{◌≡◌, ℕ, ◌+◌, ◌*◌, ◌^◌, ◌<◌, ◌≤◌, List, [], ◌∷◌, ◌++◌, length, IfOk, vec_len, vec_capacity, OnOk, ◌≢◌};
+ghost use Rattle.std.specs.Prelude.{◌≡◌, ℕ, ◌+◌, ◌*◌, ◌^◌, ◌<◌, ◌≤◌, List, [], ◌∷◌, ◌++◌, length, cond, nat_lt, slice_index, IfOk, vec_len, vec_capacity, OnOk, ◌≢◌};
+ghost use Rattle.plan.specs.Kinds.{number_of};
+ghost use Rattle.plan.specs.declared.Node.TheVariants.{Call};
 ghost use Rattle.plan.specs.Written.{built_in};
 ghost use Rattle.plan.specs.declared.faults.ReadFault.TheVariants.{Limit};
-ghost use Rattle.reader.specs.Reading.{read_type, read_entry, read_head, node_of, read_node, read_count, byte_if, between};
+ghost use Rattle.reader.specs.Reading.{read_type, entry_of, read_entry, read_head, node_of, typed_node, read_node, read_count, byte_if, between};
 ghost use Rattle.plan.specs.Table.{Standing, Closed};
 ghost use Rattle.reader.specs.Laws.{ReadExactly};
-ghost use Rattle.plan.specs.Trees.{Plan as Tree};
+ghost use Rattle.plan.specs.Trees.{Plan as Tree, the_type, the_leg};
 ghost use Rattle.reader.specs.Replies.{Answer, ValueAnswer, HeadAnswer, arities_of, NodesAnswer, TableAnswer, ParamsAnswer, LegAnswer, LegsAnswer, MapAnswer, TablesAnswer, ReadAnswer};
 
 use crate::table::close;
+use arrayvec::ArrayVec;
 use plan::faults::{PlanFault, ReadFault};
-use plan::kinds::{Field, binders_of, shape_of};
+use plan::kinds::{Field, NodeKind, binders_of, shape_of};
 use plan::limits::{MAX_BYTES, MAX_ENTRIES, MAX_LEGS, MAX_NODES, MAX_PARAMS, MAX_TYPES};
-use plan::types::is_listed;
 use plan::{Binder, Leg, LegId, Level, Node, Plan, Row, Type, TypeId};
 use std::alloc::Global;
 
@@ -37,6 +39,17 @@ fn read_type<'a>(all: usize, types: usize, bytes: &'a [u8]) -> Result<(TypeId, &
     }
 }
 
+// The type that a tag makes of two.
+fn entry_of(tag: u8, a: TypeId, b: TypeId) -> Type
+    ensures { result ≡ entry_of tag a b }
+{
+    if tag == 1 {
+        Type::Pair(a, b)
+    } else {
+        Type::Either(a, b)
+    }
+}
+
 // An entry of the table: a pair or an either of lower types, not there yet.
 fn read_entry<'a>(
     all: usize,
@@ -51,12 +64,8 @@ fn read_entry<'a>(
         [tag @ (1 | 2), rest @ ..] => {
             let (a, after_a) = read_type(all, table.len(), rest)?;
             let (b, after_b) = read_type(all, table.len(), after_a)?;
-            let entry = if *tag == 1 {
-                Type::Pair(a, b)
-            } else {
-                Type::Either(a, b)
-            };
-            if is_listed(table, entry) {
+            let entry = entry_of(*tag, a, b);
+            if table.contains(&entry) {
                 Err(ReadFault::Ref(all - bytes.len()))
             } else {
                 Ok((entry, after_b))
@@ -69,10 +78,10 @@ fn read_entry<'a>(
 // A field that is written is not zero.
 fn not_zero<'a>(
     at: usize,
-    kind: u8,
+    kind: NodeKind,
     value: u32,
     rest: &'a [u8],
-) -> Result<(u8, u32, &'a [u8]), ReadFault>
+) -> Result<(NodeKind, u32, &'a [u8]), ReadFault>
     ensures { ValueAnswer at kind value rest.now result }
 {
     if value == 0 {
@@ -83,7 +92,7 @@ fn not_zero<'a>(
 }
 
 // The first byte of a node and its field: the kind, the value and the bytes after them.
-fn read_head<'a>(all: usize, bytes: &'a [u8]) -> Result<(u8, u32, &'a [u8]), ReadFault>
+fn read_head<'a>(all: usize, bytes: &'a [u8]) -> Result<(NodeKind, u32, &'a [u8]), ReadFault>
     requires { length bytes.now ≤ all }
     ensures { HeadAnswer bytes.now (read_head all bytes.now) result }
 {
@@ -104,30 +113,54 @@ fn read_head<'a>(all: usize, bytes: &'a [u8]) -> Result<(u8, u32, &'a [u8]), Rea
     }
 }
 
+// The type of a number, if it is there.
+fn known_type(types: usize, number: u32) -> Option<TypeId>
+    requires small { number < 256 }
+    ensures { result ≡ cond (nat_lt number types) (Some (the_type number)) None }
+{
+    if (number as usize) < types {
+        Some(TypeId {
+            index: number as u8,
+        })
+    } else {
+        None
+    }
+}
+
+// A call of the leg of a number, if it is there.
+fn known_call(legs: &[Leg], number: u32) -> Option<Node>
+    requires small { number < 256 }
+    ensures { result ≡ typed_node (length (arities_of legs.now)) number (Call (the_leg number) (slice_index (arities_of legs.now) number)) }
+{
+    let leg = legs.get(number as usize)?;
+    Some(Node::Call(
+        LegId {
+            index: number as u8,
+        },
+        leg.params.len() as u8,
+    ))
+}
+
 // The node of a kind and a value, if it names a type and a leg that are there.
-fn node_of(types: usize, legs: &[Leg], binder: u16, kind: u8, value: u32) -> Option<Node>
-    requires small { (kind ≢ 1) → value < 256 }
-    ensures { result ≡ node_of types (arities_of legs.now) binder kind value }
+fn node_of(types: usize, legs: &[Leg], binder: u16, kind: NodeKind, value: u32) -> Option<Node>
+    requires small { (number_of kind ≢ 1) → value < 256 }
+    ensures { result ≡ node_of types (arities_of legs.now) binder (number_of kind) value }
 {
     let binder = Binder { index: binder };
     match kind {
-        0 => Some(Node::Unit),
-        1 => Some(Node::Number(value)),
-        2 => Some(Node::Name(Level { index: value as u8 })),
-        3 => Some(Node::Let(binder)),
-        4 => Some(Node::Take(binder)),
-        5 => Some(Node::Pair),
-        6 => Some(Node::Split(binder)),
-        7 if (value as usize) < types => Some(Node::Left(TypeId { index: value as u8 })),
-        8 if (value as usize) < types => Some(Node::Right(TypeId { index: value as u8 })),
-        9 => Some(Node::Case(binder)),
-        10 if (value as usize) < legs.len() => Some(Node::Call(
-            LegId { index: value as u8 },
-            legs[value as usize].count,
-        )),
-        11 => Some(Node::Add),
-        12 => Some(Node::Less),
-        _ => None,
+        NodeKind::Unit => Some(Node::Unit),
+        NodeKind::Number => Some(Node::Number(value)),
+        NodeKind::Name => Some(Node::Name(Level { index: value as u8 })),
+        NodeKind::Let => Some(Node::Let(binder)),
+        NodeKind::Take => Some(Node::Take(binder)),
+        NodeKind::Pair => Some(Node::Pair),
+        NodeKind::Split => Some(Node::Split(binder)),
+        NodeKind::Left => Some(Node::Left(known_type(types, value)?)),
+        NodeKind::Right => Some(Node::Right(known_type(types, value)?)),
+        NodeKind::Case => Some(Node::Case(binder)),
+        NodeKind::Call => known_call(legs, value),
+        NodeKind::Add => Some(Node::Add),
+        NodeKind::Less => Some(Node::Less),
     }
 }
 
@@ -220,21 +253,21 @@ fn read_params<'a>(
     all: usize,
     types: usize,
     bytes: &'a [u8],
-) -> Result<([TypeId; 8], u8, &'a [u8]), ReadFault>
+) -> Result<(ArrayVec<TypeId, MAX_PARAMS>, &'a [u8]), ReadFault>
     requires inside { length bytes.now ≤ all }
     ensures { ParamsAnswer all types bytes.now result }
 {
-    let (count, after_count) = read_few(all, 0, MAX_PARAMS, bytes)?;
-    let mut params = [TypeId { index: 0 }; 8];
+    let (count, after_count) = read_few(all, 0, MAX_PARAMS as u8, bytes)?;
+    let mut params = ArrayVec::new();
     let mut rest = after_count;
     let mut i = 0;
     while i < count {
         let (y, after) = read_type(all, types, rest)?;
-        params[i as usize] = y;
+        params.push(y);
         rest = after;
         i += 1;
     }
-    Ok((params, count, rest))
+    Ok((params, rest))
 }
 
 // Writes the ends of the nodes from `first` on; whether they are one expression.
@@ -266,7 +299,7 @@ fn read_leg<'a>(
     ensures cap { vec_capacity nodes.new ≡ vec_capacity nodes.old }
     ensures len { OnOk result (vec_len nodes.new ≤ 256) }
 {
-    let (params, count, after_params) = read_params(all, types, bytes)?;
+    let (params, after_params) = read_params(all, types, bytes)?;
     let (result, after_result) = read_type(all, types, after_params)?;
     let first = nodes.len();
     let (size, after_size) = read_count(all, first, after_result)?;
@@ -275,7 +308,7 @@ fn read_leg<'a>(
         types,
         legs,
         size,
-        binder + count as u16,
+        binder + params.len() as u16,
         nodes,
         after_size,
     )?;
@@ -285,7 +318,6 @@ fn read_leg<'a>(
     Ok((
         Leg {
             params,
-            count,
             result,
             first: first as u16,
             binder: Binder { index: binder },

@@ -1,5 +1,4 @@
-use Rattle.std.proofs.Common.{◌+◌, ◌<◌, length, take, sym, ap, ◌∙◌, subst, arith, rules}
-use Rattle.std.proofs.lemmas.List.{length-set, take_more_set}
+use Rattle.std.proofs.Common.{◌+◌, sym, ap, ◌∙◌, subst, arith}
 use Rattle.std.proofs.lemmas.Result.{err_from_is_err_and}
 use Rattle.plan.specs.Written.{same_state}
 use Rattle.reader.specs.Reading.{then_read, many, read_type}
@@ -12,20 +11,19 @@ returns-in_err-y c =
     let v = c.loop-i.invariant in
     let n = c.in_ok-count.ensures in
     rw (p.1, p.2) (ap (λ g. then_read g (λ n r. many same_state (read_type c.args.all) n c.args.types r)) n.answer.0
-    ∙ left_fails same_state (read_type c.args.all) c.in_ok-count.count c.args.types c.in_ok-count.after_count.now c.loop-i.i c.args.types c.loop-i.rest.now (take c.loop-i.i c.loop-i.params) _ c.loop-i-test.true v.3 c.in_err-y.ensures)
+    ∙ left_fails same_state (read_type c.args.all) c.in_ok-count.count c.args.types c.in_ok-count.after_count.now c.loop-i.i c.args.types c.loop-i.rest.now c.loop-i.params.items _ c.loop-i-test.true v.3 c.in_err-y.ensures)
 
 pub loop-i-preserved : goal.loop-i-preserved
 loop-i-preserved c =
     let v = c.loop-i.invariant in
     let e = c.in_ok-y.ensures in
-    let bound = c.in_ok-count.ensures in
-    let lt : c.loop-i.i < length c.loop-i.params = search rules in (
+    let bound = c.in_ok-count.ensures in (
       omega arith,
-      length-set c.loop-i.params c.loop-i.i c.in_ok-y.y ∙ v.1,
+      c.push.ensures.len ∙ ap (λ n. n + 1) v.1,
       omega (arith, e.1),
       subst (Left same_state (read_type c.args.all) c.in_ok-count.count c.args.types c.in_ok-count.after_count.now (c.loop-i.i + 1) c.args.types c.in_ok-y.after.now)
-          (sym (take_more_set c.loop-i.params c.loop-i.i c.in_ok-y.y lt))
-          (left_next same_state (read_type c.args.all) c.in_ok-count.count c.args.types c.in_ok-count.after_count.now c.loop-i.i c.args.types c.loop-i.rest.now (take c.loop-i.i c.loop-i.params) c.in_ok-y.y c.in_ok-y.after.now c.loop-i-test.true v.3 e.0),
+          (sym c.push.ensures.items)
+          (left_next same_state (read_type c.args.all) c.in_ok-count.count c.args.types c.in_ok-count.after_count.now c.loop-i.i c.args.types c.loop-i.rest.now c.loop-i.params.items c.in_ok-y.y c.in_ok-y.after.now c.loop-i-test.true v.3 e.0),
     )
 
 pub overflow_add-i : goal.overflow_add-i
