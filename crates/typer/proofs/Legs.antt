@@ -1,8 +1,10 @@
 -- Legs, one after another. Assumes nothing.
-use Rattle.std.proofs.Common.{◌≡◌, ℕ, zero, suc, ◌+◌, ◌<◌, ◌≤◌, Bool, true, false, cond, ◌&&◌, List, [], ◌∷◌, ◌++◌, map, length, get_or, take, drop, Ok, Err, sym, refl, ap, ◌∙◌, subst, ap₂, append_assoc, append-nil, arith, length-append, eq-eqb, ne_eqb}
-use Rattle.std.proofs.lemmas.List.{take_more, drop_all}
-use Rattle.std.proofs.lemmas.Bool.{and_from, and_parts}
+use Rattle.std.proofs.Common.{◌≡◌, ℕ, zero, suc, ◌+◌, ◌<◌, ◌≤◌, cond, ◌&&◌, List, [], ◌∷◌, ◌++◌, map, length, get_or, drop, Ok, Err, sym, refl, ap, ◌∙◌, subst, ap₂, append_assoc, append-nil, arith, length-append}
+use mathlib.Core.List.{reverse_aux}
+use Rattle.std.proofs.lemmas.List.{drop_more}
+use Rattle.std.specs.List.{list_all}
 use Rattle.plan.specs.declared.TypeId.{TypeId}
+use Rattle.plan.specs.declared.Plan.{Plan as FlatPlan}
 use Rattle.plan.specs.declared.Leg.{Leg as FlatLeg}
 use Rattle.plan.specs.declared.Row.{Row}
 use Rattle.plan.specs.declared.Node.{Node}
@@ -12,35 +14,29 @@ use Rattle.plan.specs.declared.faults.TypeFault.TheVariants.{«Type» as BadType
 use Rattle.plan.specs.Kinds.{kids_of}
 use Rattle.plan.specs.Limits.{max_params}
 use Rattle.plan.specs.Trees.{Leg, flat}
-use Rattle.plan.specs.Written.{Run, with_node, with_leg, NodeLaid, LegLaid, Before}
+use Rattle.plan.specs.Written.{Run, with_node, with_leg, NodeLaid, LegLaid, Before, built_in, none_before}
 use Rattle.plan.specs.Table.{term_at, node_size, InOrder}
-use Rattle.plan.specs.Plans.{params_of, leg_in, legs_in}
-use Rattle.typer.specs.Typing.{World, then_type, same_id, numbers, check_leg, check_legs, sig_of, scope_on, unit_type, number_type}
-use Rattle.typer.specs.Walk.{sigs_of, no_leg, EachFew, deals_in_numbers}
+use Rattle.plan.specs.Plans.{params_of, leg_in, legs_in, tree, Sound}
+use Rattle.typer.specs.Typing.{World, Reached, then_type, if_same, same_id, numbers, check, check_leg, check_legs, check_plan, sig_of, scope_on, number_type}
+use Rattle.typer.specs.Walk.{scope_of, sigs_of, world_in, deals_in_numbers}
 use Rattle.typer.specs.Levels.{levels, leg_levels}
 use Rattle.typer.specs.Depths.{FewKids, BodiesFew}
 use Rattle.typer.proofs.Views.{levels_length}
 
-pub scope_push : (Γ ys : List TypeId) (y : TypeId) → scope_on Γ (ys ++ (y ∷ [])) ≡ y ∷ scope_on Γ ys
-scope_push Γ [] y = refl
-scope_push Γ (x ∷ ys) y = scope_push (x ∷ Γ) ys y
+scope_turned : (Γ ps : List TypeId) → scope_on Γ ps ≡ reverse_aux ps Γ
+scope_turned Γ [] = refl
+scope_turned Γ (p ∷ ps) = scope_turned (p ∷ Γ) ps
 
-numbers_push : (ys : List TypeId) (y : TypeId) → numbers ys ≡ true → y.index ≡ 1 → numbers (ys ++ (y ∷ [])) ≡ true
-numbers_push [] y e q = and_from (same_id y number_type) true (eq-eqb y.index 1 q) refl
-numbers_push (x ∷ ys) y e q = let p = and_parts (same_id x number_type) (numbers ys) e in and_from (same_id x number_type) (numbers (ys ++ (y ∷ []))) p.0 (numbers_push ys y p.1 q)
+-- a leg's check from that of its body, as the code makes it
+pub leg_checked : (w : World) (ns : List Row) (g : FlatLeg) (i : ℕ) (ys : List TypeId) (r : Reached TypeId) → i ≡ g.first → ys ≡ params_of g → r ≡ check w (scope_of ys) i (term_at ns i)
+    → check_leg w g.first (leg_in ns g) ≡ then_type r (λ y. if_same g.first y g.result (Ok tt))
+leg_checked w ns g i ys r p e h =
+    ap (λ q. then_type q (λ y. if_same g.first y g.result (Ok tt))) (ap (λ Γ. check w Γ g.first (term_at ns g.first)) (scope_turned [] (params_of g))
+    ∙ sym (h ∙ ap₂ (λ zs j. check w (scope_of zs) j (term_at ns j)) e p))
 
-pub numbers_more : (ys : List TypeId) (k : ℕ) → k < length ys → numbers (take k ys) ≡ true → (get_or ys k unit_type).index ≡ 1 → numbers (take (k + 1) ys) ≡ true
-numbers_more ys k lt e q = ap numbers (take_more ys k unit_type lt) ∙ numbers_push (take k ys) (get_or ys k unit_type) e q
-
-and_not : (a b : Bool) → b ≡ false → (a && b) ≡ false
-and_not true b e = e
-and_not false b e = refl
-
-pub numbers_not : (ys : List TypeId) (n k : ℕ) → k < n → n ≤ length ys → ((get_or ys k unit_type).index ≡ 1 → ⊥) → numbers (take n ys) ≡ false
-numbers_not ys zero k lt le ne = absurd (omega arith)
-numbers_not [] (suc n) k lt le ne = absurd (omega arith)
-numbers_not (y ∷ ys) (suc n) zero lt le ne = ap (λ b. b && numbers (take n ys)) (ne_eqb y.index 1 ne)
-numbers_not (y ∷ ys) (suc n) (suc k) lt le ne = and_not (same_id y number_type) _ (numbers_not ys n k (omega arith) (omega arith) ne)
+all_numbers : (ps : List TypeId) → list_all (λ p. same_id p number_type) ps ≡ numbers ps
+all_numbers [] = refl
+all_numbers (p ∷ ps) = ap (λ b. same_id p number_type && b) (all_numbers ps)
 
 -- ---- what holds of the legs of a read plan
 
@@ -76,109 +72,94 @@ bodies_few types s (g ∷ gs) h r = (
   bodies_few types (with_leg s g) gs (few_push s.arities (length g.params) r.0.few_params h) r.1,
 )
 
-pub each_few : (p : ℕ) (ns : List Row) (gs : List FlatLeg) → InOrder p ns gs → EachFew gs
-each_few p ns [] o l lt = absurd (omega arith)
-each_few p ns (g ∷ gs) o zero lt = o.2
-each_few p ns (g ∷ gs) o (suc l) lt = each_few (p + node_size (term_at ns p)) ns gs o.3 l (omega arith)
-
 pub sigs_are : (ns : List Row) (gs : List FlatLeg) → map sig_of (legs_in ns gs) ≡ sigs_of gs
 sigs_are ns [] = refl
 sigs_are ns (g ∷ gs) = ap (λ l. record { params = params_of g; result = g.result } ∷ l) (sigs_are ns gs)
 
+module _ (p : FlatPlan) (s : Sound p) where
+  pub few_types : length p.types.items ≤ 32
+  few_types =
+      let built = ap length s.built ∙ length-append built_in (drop 3 p.types.items) in
+      let few = s.laid.few_entries in
+      omega arith
+
+  pub few_kids : BodiesFew (legs_in p.nodes.items p.legs.items)
+  few_kids = bodies_few (3 + length (tree p).entries) none_before (tree p).legs (λ l. omega arith) s.laid.legs_laid
+
+  pub checks_are : check_plan (tree p) ≡ check_legs (world_in p) 0 (legs_in p.nodes.items p.legs.items)
+  checks_are = ap (λ w. check_legs w 0 (tree p).legs) (ap₂ (λ t g. record { types = t; sigs = g }) (sym s.built) (sigs_are p.nodes.items p.legs.items))
+
 -- ---- the walk from leg to leg
 
-drop_next : (gs : List FlatLeg) (k : ℕ) (d : FlatLeg) → k < length gs → drop k gs ≡ get_or gs k d ∷ drop (k + 1) gs
-drop_next [] k d lt = absurd (omega arith)
-drop_next (g ∷ gs) zero d lt = refl
-drop_next (g ∷ gs) (suc k) d lt = drop_next gs k d (omega arith) ∙ ap (λ m. get_or gs k d ∷ drop m (g ∷ gs)) (let e : suc (k + 1) ≡ suc k + 1 = omega arith in e)
+not_main : (w : World) (ns : List Row) (i : ℕ) (g : FlatLeg) (lower : List FlatLeg) (main : FlatLeg)
+    → check_legs w i (leg_in ns g ∷ legs_in ns (lower ++ main ∷ [])) ≡ then_type (check_leg w i (leg_in ns g)) (λ u. check_legs w (i + node_size (term_at ns g.first)) (legs_in ns (lower ++ main ∷ [])))
+not_main w ns i g [] main = refl
+not_main w ns i g (h ∷ hs) main = refl
+
+pub next_of : (lower : List FlatLeg) (k : ℕ) (g main : FlatLeg) → k < length lower → g ≡ get_or lower k g → drop k lower ++ main ∷ [] ≡ g ∷ (drop (k + 1) lower ++ main ∷ [])
+next_of lower k g main lt e = ap (λ l. l ++ main ∷ []) (drop_more lower k g lt ∙ ap (λ x. x ∷ drop (k + 1) lower) (sym e))
 
 order_ends : (p : ℕ) (ns : List Row) (gs : List FlatLeg) → InOrder p ns gs → p ≤ length ns
 order_ends p ns [] o = omega (arith, o)
 order_ends p ns (g ∷ gs) o = let lt = o.1 in omega arith
 
 module _ (w : World) (ns : List Row) (gs : List FlatLeg) where
-  -- The legs before the k-th are done; `done` has the levels of their nodes.
-  pub record AtLeg (k : ℕ) (done : List ℕ) : Type 0 where
-    pub order : InOrder (length done) ns (drop k gs)
-    pub checks : check_legs w 0 (legs_in ns gs) ≡ check_legs w (length done) (legs_in ns (drop k gs))
-    pub levels_are : leg_levels (legs_in ns gs) ≡ done ++ leg_levels (legs_in ns (drop k gs))
-    pub few : BodiesFew (legs_in ns (drop k gs))
+  -- The legs before `rest` are done; `done` has the levels of their nodes.
+  pub record AtLeg (rest : List FlatLeg) (done : List ℕ) : Type 0 where
+    pub order : InOrder (length done) ns rest
+    pub checks : check_legs w 0 (legs_in ns gs) ≡ check_legs w (length done) (legs_in ns rest)
+    pub levels_are : leg_levels (legs_in ns gs) ≡ done ++ leg_levels (legs_in ns rest)
+    pub few : BodiesFew (legs_in ns rest)
 
-  pub first_leg : InOrder 0 ns gs → BodiesFew (legs_in ns gs) → AtLeg 0 []
+  pub first_leg : InOrder 0 ns gs → BodiesFew (legs_in ns gs) → AtLeg gs []
   first_leg o f = record { order = o; checks = refl; levels_are = refl; few = f }
 
-  -- the leg that is next
-  pub record Here (k : ℕ) (done : List ℕ) (g : FlatLeg) : Type 0 where
-    pub is : drop k gs ≡ g ∷ drop (k + 1) gs
+  module _ (g : FlatLeg) (rest : List FlatLeg) (done : List ℕ) (h : AtLeg (g ∷ rest) done) where
+    -- what typing the leg that is next asks
     pub first_is : g.first ≡ length done
+    first_is = h.order.0
+
     pub within : g.first < length ns
-    pub params : g.count ≤ max_params
-    pub few : FewKids (flat (term_at ns g.first))
+    within = subst (λ p. p < length ns) (sym first_is) h.order.1
+
     pub fits : length done + node_size (term_at ns g.first) ≤ length ns
-    pub behind : InOrder (length done + node_size (term_at ns (length done))) ns (drop (k + 1) gs)
-    pub few_behind : BodiesFew (legs_in ns (drop (k + 1) gs))
+    fits = subst (λ p. length done + node_size (term_at ns p) ≤ length ns) (sym first_is) (order_ends _ ns rest h.order.3)
 
-  pub here : (k : ℕ) (done : List ℕ) (d : FlatLeg) → k < length gs → AtLeg k done → Here k done (get_or gs k d)
-  here k done d lt h =
-      let is = drop_next gs k d lt in
-      let o = subst (InOrder (length done) ns) is h.order in
-      let f = subst (λ l. BodiesFew (legs_in ns l)) is h.few in
-      record { is = is; first_is = o.0; within = subst (λ p. p < length ns) (sym o.0) o.1; params = o.2; few = f.0; fits = subst (λ p. length done + node_size (term_at ns p) ≤ length ns) (sym o.0) (order_ends _ ns (drop (k + 1) gs) o.3); behind = o.3; few_behind = f.1 }
+    pub few_here : FewKids (flat (term_at ns g.first))
+    few_here = h.few.0
 
-  module _ (k : ℕ) (done : List ℕ) (g : FlatLeg) (h : AtLeg k done) (x : Here k done g) where
-    rest_is : legs_in ns (drop k gs) ≡ leg_in ns g ∷ legs_in ns (drop (k + 1) gs)
-    rest_is = ap (legs_in ns) x.is
+    checks_here : check_legs w 0 (legs_in ns gs) ≡ check_legs w g.first (leg_in ns g ∷ legs_in ns rest)
+    checks_here = h.checks ∙ ap (λ p. check_legs w p (leg_in ns g ∷ legs_in ns rest)) (sym first_is)
 
-    checks_here : check_legs w 0 (legs_in ns gs) ≡ check_legs w g.first (leg_in ns g ∷ legs_in ns (drop (k + 1) gs))
-    checks_here = h.checks ∙ ap₂ (check_legs w) (sym x.first_is) rest_is
+    next_levels : (later : List ℕ) → later ≡ done ++ levels (length (params_of g)) (term_at ns g.first) → leg_levels (legs_in ns gs) ≡ later ++ leg_levels (legs_in ns rest)
+    next_levels later l = h.levels_are ∙ sym (append_assoc done (levels (length (params_of g)) (term_at ns g.first)) (leg_levels (legs_in ns rest))) ∙ ap (λ d. d ++ leg_levels (legs_in ns rest)) (sym l)
 
-    body_few_levels : length (levels (length (params_of g)) (term_at ns g.first)) ≡ node_size (term_at ns g.first)
-    body_few_levels = levels_length (length (params_of g)) (term_at ns g.first)
+  -- main is behind it
+  module _ (g : FlatLeg) (lower : List FlatLeg) (main : FlatLeg) (done : List ℕ) (h : AtLeg (g ∷ (lower ++ main ∷ [])) done) where
+    checks_lower : check_legs w 0 (legs_in ns gs) ≡ then_type (check_leg w g.first (leg_in ns g)) (λ u. check_legs w (g.first + node_size (term_at ns g.first)) (legs_in ns (lower ++ main ∷ [])))
+    checks_lower = checks_here g (lower ++ main ∷ []) done h ∙ not_main w ns g.first g lower main
 
-    -- with another leg behind it
-    behind_is : k + 1 < length gs → legs_in ns (drop (k + 1) gs) ≡ leg_in ns (get_or gs (k + 1) no_leg) ∷ legs_in ns (drop (k + 1 + 1) gs)
-    behind_is lt = ap (legs_in ns) (drop_next gs (k + 1) no_leg lt)
+    pub lower_fails : (f : TypeFault) → check_leg w g.first (leg_in ns g) ≡ Err f → check_legs w 0 (legs_in ns gs) ≡ Err f
+    lower_fails f e = checks_lower ∙ ap (λ r. then_type r (λ u. check_legs w (g.first + node_size (term_at ns g.first)) (legs_in ns (lower ++ main ∷ [])))) e
 
-    lower : k + 1 < length gs → check_legs w 0 (legs_in ns gs) ≡ then_type (check_leg w g.first (leg_in ns g)) (λ u. check_legs w (g.first + node_size (term_at ns g.first)) (legs_in ns (drop (k + 1) gs)))
-    lower lt =
-        checks_here ∙ ap (λ l. check_legs w g.first (leg_in ns g ∷ l)) (behind_is lt)
-        ∙ ap (λ l. then_type (check_leg w g.first (leg_in ns g)) (λ u. check_legs w (g.first + node_size (term_at ns g.first)) l)) (sym (behind_is lt))
-
-    pub lower_fails : k + 1 < length gs → (f : TypeFault) → check_leg w g.first (leg_in ns g) ≡ Err f → check_legs w 0 (legs_in ns gs) ≡ Err f
-    lower_fails lt f e = lower lt ∙ ap (λ r. then_type r (λ u. check_legs w (g.first + node_size (term_at ns g.first)) (legs_in ns (drop (k + 1) gs)))) e
-
-    next_levels : (later : List ℕ) → later ≡ done ++ levels (length (params_of g)) (term_at ns g.first) → leg_levels (legs_in ns gs) ≡ later ++ leg_levels (legs_in ns (drop (k + 1) gs))
-    next_levels later l =
-        h.levels_are ∙ ap (λ r. done ++ leg_levels r) rest_is
-        ∙ sym (append_assoc done (levels (length (params_of g)) (term_at ns g.first)) (leg_levels (legs_in ns (drop (k + 1) gs))))
-        ∙ ap (λ d. d ++ leg_levels (legs_in ns (drop (k + 1) gs))) (sym l)
-
-    longer : (later : List ℕ) → later ≡ done ++ levels (length (params_of g)) (term_at ns g.first) → length later ≡ g.first + node_size (term_at ns g.first)
-    longer later l = ap length l ∙ length-append done (levels (length (params_of g)) (term_at ns g.first)) ∙ ap₂ (λ a b. a + b) (sym x.first_is) body_few_levels
-
-    pub next_leg : k + 1 < length gs → (later : List ℕ) → check_leg w g.first (leg_in ns g) ≡ Ok tt → later ≡ done ++ levels (length (params_of g)) (term_at ns g.first) → AtLeg (k + 1) later
-    next_leg lt later e l =
-        let n = longer later l in
+    pub next_leg : (later : List ℕ) → check_leg w g.first (leg_in ns g) ≡ Ok tt → later ≡ done ++ levels (length (params_of g)) (term_at ns g.first) → AtLeg (lower ++ main ∷ []) later
+    next_leg later e l =
+        let first = first_is g (lower ++ main ∷ []) done h in
+        let longer : length later ≡ g.first + node_size (term_at ns g.first) =
+        ap length l ∙ length-append done (levels (length (params_of g)) (term_at ns g.first)) ∙ ap₂ (λ m n. m + n) (sym first) (levels_length (length (params_of g)) (term_at ns g.first)) in
         record {
-          order = subst (λ p. InOrder p ns (drop (k + 1) gs)) (ap (λ p. p + node_size (term_at ns p)) (sym x.first_is) ∙ sym n) x.behind;
+          order = subst (λ p. InOrder p ns (lower ++ main ∷ [])) (ap (λ p. p + node_size (term_at ns p)) (sym first) ∙ sym longer) h.order.3;
           checks =
-              lower lt ∙ ap (λ r. then_type r (λ u. check_legs w (g.first + node_size (term_at ns g.first)) (legs_in ns (drop (k + 1) gs)))) e
-              ∙ ap (λ p. check_legs w p (legs_in ns (drop (k + 1) gs))) (sym n);
-          levels_are = next_levels later l;
-          few = x.few_behind;
+              checks_lower ∙ ap (λ r. then_type r (λ u. check_legs w (g.first + node_size (term_at ns g.first)) (legs_in ns (lower ++ main ∷ [])))) e
+              ∙ ap (λ p. check_legs w p (legs_in ns (lower ++ main ∷ []))) (sym longer);
+          levels_are = next_levels g (lower ++ main ∷ []) done h later l;
+          few = h.few.1;
         }
 
-    none_behind : k + 1 ≡ length gs → legs_in ns (drop (k + 1) gs) ≡ []
-    none_behind e = ap (legs_in ns) (drop_all (k + 1) gs (let z : length gs ≤ k + 1 = omega arith in z))
+  -- it is main
+  module _ (g : FlatLeg) (done : List ℕ) (a : AtLeg (g ∷ []) done) where
+    pub main_is : check_legs w 0 (legs_in ns gs) ≡ cond (deals_in_numbers (params_of g) g.result) (check_leg w g.first (leg_in ns g)) (Err (BadType g.first))
+    main_is = checks_here g [] done a ∙ ap (λ b. cond (b && same_id g.result number_type) (check_leg w g.first (leg_in ns g)) (Err (BadType g.first))) (sym (all_numbers (params_of g)))
 
-    pub main : k + 1 ≡ length gs → (b : Bool) → b ≡ deals_in_numbers (params_of g) g.result → check_legs w 0 (legs_in ns gs) ≡ cond b (check_leg w g.first (leg_in ns g)) (Err (BadType g.first))
-    main e b q =
-        checks_here ∙ ap (λ l. check_legs w g.first (leg_in ns g ∷ l)) (none_behind e)
-        ∙ ap (λ x. cond x (check_leg w g.first (leg_in ns g)) (Err (BadType g.first))) (sym q)
-
-    pub main_levels : k + 1 ≡ length gs → (later : List ℕ) → later ≡ done ++ levels (length (params_of g)) (term_at ns g.first) → later ≡ leg_levels (legs_in ns gs)
-    main_levels e later l = sym (next_levels later l ∙ ap (λ r. later ++ leg_levels r) (none_behind e) ∙ append-nil later)
-
-pub no_legs : (w : World) (ns : List Row) (gs : List FlatLeg) → length gs ≡ 0 → Err (BadType 0) ≡ check_legs w 0 (legs_in ns gs)
-no_legs w ns [] e = refl
-no_legs w ns (g ∷ gs) e = absurd (omega arith)
+    pub main_levels : (later : List ℕ) → later ≡ done ++ levels (length (params_of g)) (term_at ns g.first) → later ≡ leg_levels (legs_in ns gs)
+    main_levels later l = sym (next_levels g [] done a later l ∙ append-nil later)

@@ -1,6 +1,6 @@
 mod Types
 mod Scopes
-mod Views
+pub mod Views
 mod Walking
 mod Legs
 mod Accepted

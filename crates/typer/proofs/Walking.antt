@@ -14,7 +14,7 @@ use Rattle.plan.specs.Table.{term_at, row_at, node_size, Stand}
 use Rattle.plan.proofs.Stacks.{flat_all}
 use Rattle.plan.proofs.Kids.{flat_head}
 use Rattle.typer.specs.Typing.{World, Reached, then_type, there_at, pair_parts, either_parts, check, size}
-use Rattle.typer.specs.Walk.{opened, opened_twice, side, inner_scope, kid_scope, node_type, check_kids}
+use Rattle.typer.specs.Walk.{scope_of, opened, opened_twice, side, inner_scope, kid_scope, node_type, check_kids}
 use Rattle.typer.specs.Levels.{levels}
 use Rattle.typer.specs.Depths.{inner_depth, kid_depth, kid_levels, FewKids}
 use Rattle.typer.proofs.Views.{view, levels_view, levels_length}
@@ -66,6 +66,13 @@ module _ (w : World) (Γ : List TypeId) (i : ℕ) where
   scope_length o [] Δ e = same Δ e
   scope_length o (u ∷ us) Δ e =
       inner_length o u (suc (length us)) Δ (sym (ap (λ b. cond b (Ok Γ) (inner_scope w Γ i o u (suc (length us)))) (eqb-suc-zero (length us))) ∙ e)
+
+-- the same scope for a kid, and the same type for a node, from what the code holds of each argument
+pub kid_scope_of : (w : World) (i : ℕ) {o o' : Node} {ys ys' us us' : List TypeId} (r : Reached (List TypeId)) → o ≡ o' → ys ≡ ys' → us ≡ us' → kid_scope w (scope_of ys) i o us ≡ r → kid_scope w (scope_of ys') i o' us' ≡ r
+kid_scope_of w i r p q e h = rw (sym p, sym q, sym e) h
+
+pub node_type_of : (w : World) (i : ℕ) {o o' : Node} {ys ys' us us' : List TypeId} → o ≡ o' → ys ≡ ys' → us ≡ us' → node_type w (scope_of ys) i o us ≡ node_type w (scope_of ys') i o' us'
+node_type_of w i p q e = rw (p, q, e) refl
 
 module _ (w : World) (Γ : List TypeId) (ns : List Row) (i : ℕ) (t : Term) where
   -- Kids with the types us are done and the next one stands at p; `before` ends with the node's own levels, and those of its kids' nodes follow.

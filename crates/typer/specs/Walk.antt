@@ -1,37 +1,29 @@
 -- The typer's walk, one node at a time: the scope of each kid, and the node's type from its kids' types. Assumes nothing.
-use Rattle.std.specs.Prelude.{◌≡◌, ℕ, zero, suc, ◌+◌, ◌<◌, ◌≤◌, Bool, cond, ◌&&◌, List, [], ◌∷◌, ◌++◌, length, get_or, take, Ok, Err, Result, ◌==◌, slice_index_or}
-use Rattle.std.specs.List.{slice_get}
+use Rattle.std.specs.Prelude.{◌≡◌, ℕ, ◌+◌, Bool, cond, ◌&&◌, List, [], ◌∷◌, ◌++◌, length, take, Ok, Err, Result, ◌==◌, slice_index_or, vec_items}
+use Rattle.std.specs.Prelude.{reverse}
+use Rattle.std.specs.List.{slice_get, list_all}
 use Rattle.plan.specs.declared.TypeId.{TypeId}
 use Rattle.plan.specs.declared.Type.{«Type» as Shape}
 use Rattle.plan.specs.declared.Type.TheVariants.{Pair as PairType}
 use Rattle.plan.specs.declared.Leg.{Leg as FlatLeg}
+use Rattle.plan.specs.declared.Plan.{Plan as FlatPlan}
 use Rattle.plan.specs.declared.Node.{Node}
 use Rattle.plan.specs.declared.Node.TheVariants.{Unit as Unit', Number, Name, Let, Take, Pair, Split, Left, Right, Case, Call, Add, Less}
 use Rattle.plan.specs.declared.faults.TypeFault.{TypeFault}
-use Rattle.plan.specs.Limits.{max_levels, max_params}
 use Rattle.plan.specs.declared.LegId.{LegId}
 use Rattle.plan.specs.Trees.{Term, the_binder}
 use Rattle.plan.specs.Plans.{params_of}
-use Rattle.typer.specs.declared.scope.Scope.{Scope}
-use Rattle.typer.specs.declared.kids.KidTypes.{KidTypes}
-use Rattle.typer.specs.Typing.{Sig, World, Reached, then_type, there_at, named_at, if_room, if_same, pair_parts, either_parts, call_result, check, found, number_of, size, unit_type, number_type, truth_type, numbers, same_id}
+use Rattle.typer.specs.Typing.{Sig, World, Reached, then_type, there_at, named_at, if_room, if_same, pair_parts, either_parts, call_result, check, found, number_of, size, unit_type, number_type, truth_type, same_id}
 
-abbrev pub down : ℕ → List TypeId → List TypeId
-down zero ys = []
-down (suc n) ys = slice_index_or ys n unit_type ∷ down n ys
-
--- the innermost level first
-abbrev pub scope_of : Scope → List TypeId
-scope_of s = down s.len s.types
-
-abbrev pub kids_known : KidTypes → List TypeId
-kids_known k = take k.len k.types
+-- A scope that is kept from outside in, with the innermost level first.
+abbrev pub scope_of : List TypeId → List TypeId
+scope_of ys = reverse ys
 
 abbrev pub kid_at : List TypeId → ℕ → TypeId
 kid_at us k = slice_index_or us k unit_type
 
 abbrev pub no_leg : FlatLeg
-no_leg = record { params = []; count = 0; result = unit_type; first = 0; binder = the_binder 0 }
+no_leg = record { params = record { items = [] }; result = unit_type; first = 0; binder = the_binder 0 }
 
 abbrev pub sigs_of : List FlatLeg → List Sig
 sigs_of [] = []
@@ -39,19 +31,18 @@ sigs_of (g ∷ gs) = record { params = params_of g; result = g.result } ∷ sigs
 
 -- what main has to be
 abbrev pub deals_in_numbers : List TypeId → TypeId → Bool
-deals_in_numbers ps y = numbers ps && same_id y number_type
-
--- no leg has more parameters than there may be
-abbrev pub EachFew : List FlatLeg → Type 0
-EachFew gs = (l : ℕ) → l < length gs → (get_or gs l no_leg).count ≤ max_params
+deals_in_numbers ps y = list_all (λ p. same_id p number_type) ps && same_id y number_type
 
 abbrev pub world : List Shape → List FlatLeg → World
 world ts gs = record { types = ts; sigs = sigs_of gs }
 
--- The code's scope is the definition's, and has no more levels than there may be.
-abbrev pub ScopeAnswer : Reached (List TypeId) → Result Scope TypeFault → Type 0
-ScopeAnswer g (Ok s) = (g ≡ Ok (scope_of s)) × (s.len ≤ max_levels)
-ScopeAnswer g (Err e) = g ≡ Err e
+abbrev pub world_in : FlatPlan → World
+world_in p = world (vec_items p.types) (vec_items p.legs)
+
+-- The kept scope `new` is the definition's, and `old` with more levels inside.
+abbrev pub Opens : Reached (List TypeId) → List TypeId → Result (Unit {0}) TypeFault → List TypeId → Type 0
+Opens g old (Ok u) new = (g ≡ Ok (scope_of new)) × (take (length old) new ≡ old)
+Opens g old (Err e) new = g ≡ Err e
 
 -- a scope with one level more, or two, if there is room
 abbrev pub opened : ℕ → List TypeId → TypeId → Reached (List TypeId)

@@ -3,13 +3,13 @@
 
 use plan::Plan;
 
-mod kids;
 mod rules;
-mod scope;
 pub mod typed;
 mod walk;
+mod world;
 
 // A plan that has types, with the number of levels in scope at each of its nodes.
+// The levels stand beside the rows: the reader makes the rows, and there are no levels before a plan has types.
 #[derive(Drop)]
 pub struct TypedPlan {
     pub plan: Plan,

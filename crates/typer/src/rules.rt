@@ -1,17 +1,15 @@
 // The typing rules, one node at a time.
-ghost use Rattle.std.specs.Prelude.{◌≡◌, ℕ, ◌+◌, ◌<◌, ◌≤◌, length, Ok};
-ghost use Rattle.std.specs.List.{slice_get};
+ghost use Rattle.std.specs.Prelude.{◌≡◌, ℕ, ◌++◌, length, Ok, position};
 ghost use Rattle.plan.specs.Written.{same_type};
-ghost use Rattle.plan.specs.Plans.{params_of};
-ghost use Rattle.typer.specs.Typing.{number_of, place_of, pair_parts, either_parts, there_at, if_same, same_id, same_list};
-ghost use Rattle.typer.specs.Walk.{EachFew, call_type, sigs_of, scope_of, kids_known, world, opened, opened_twice, inner_scope, kid_scope, two_numbers, node_type, ScopeAnswer};
+ghost use Rattle.std.specs.List.{slice_get};
+ghost use Rattle.typer.specs.Typing.{number_of, either_parts, there_at, if_room, if_same};
+ghost use Rattle.typer.specs.Walk.{call_type, sigs_of, scope_of, world_in, kid_at, inner_scope, kid_scope, two_numbers, node_type, Opens};
 
-use crate::kids::KidTypes;
-use crate::scope::Scope;
+use crate::world::World;
+use arrayvec::ArrayVec;
 use plan::faults::TypeFault;
 use plan::limits::MAX_LEVELS;
-use plan::types::is_same;
-use plan::{Leg, LegId, Node, Type, TypeId};
+use plan::{LegId, Node, Type, TypeId};
 
 // Unit, number, and what a comparison gives.
 pub(crate) const UNIT: TypeId = TypeId { index: 0 };
@@ -20,97 +18,37 @@ pub(crate) const NUMBER: TypeId = TypeId { index: 1 };
 
 pub(crate) const TRUTH: TypeId = TypeId { index: 2 };
 
-// The place of a type in the table.
-fn place_of(types: &[Type], y: Type) -> Option<u8>
-    requires { length types.now ≤ 32 }
-    ensures { result ≡ place_of y types.now }
+// The types of the levels in scope, from outside in.
+pub(crate) type Scope = ArrayVec<TypeId, MAX_LEVELS>;
+
+// The type of a kid; unit if there is none such.
+fn kid(kids: &[TypeId], k: usize) -> TypeId
+    ensures { result ≡ kid_at kids.now k }
 {
-    match types {
-        [] => None,
-        [x, rest @ ..] => {
-            if is_same(*x, y) {
-                Some(0)
-            } else {
-                match place_of(rest, y) {
-                    Some(n) => Some(n + 1),
-                    None => None,
-                }
-            }
-        }
-    }
+    kids.get(k).copied().unwrap_or(UNIT)
 }
 
-// The number of a type that has to be in the table.
-fn number_of(at: usize, types: &[Type], y: Type) -> Result<TypeId, TypeFault>
-    requires { length types.now ≤ 32 }
-    ensures { result ≡ there_at at (number_of y types.now) }
+// The first place of a type in the table.
+fn place_of(types: &[Type], y: Type) -> Option<usize>
+    ensures { result ≡ position (λ x. same_type x y) types.now }
 {
-    match place_of(types, y) {
-        Some(index) => Ok(TypeId { index }),
-        None => Err(TypeFault::Type(at)),
-    }
+    types.iter().position(|x| *x == y)
 }
 
-// The type that a number stands for, if it does.
-fn type_at(types: &[Type], y: TypeId) -> Option<Type>
-    ensures { result ≡ slice_get types.now y.index }
+// Brings levels into scope, the last one innermost, if there is room for all.
+fn open(at: usize, scope: &mut Scope, levels: &[TypeId]) -> Result<(), TypeFault>
+    ensures { Opens (if_room at (length levels.now) (scope_of scope.old.items) (Ok (scope_of (scope.old.items ++ levels.now)))) scope.old.items result scope.new.items }
 {
-    if (y.index as usize) < types.len() {
-        Some(types[y.index as usize])
-    } else {
-        None
-    }
-}
-
-// The parts of a type that has to be a pair.
-fn pair_parts(at: usize, types: &[Type], y: TypeId) -> Result<(TypeId, TypeId), TypeFault>
-    ensures { result ≡ there_at at (pair_parts (slice_get types.now y.index)) }
-{
-    match type_at(types, y) {
-        Some(Type::Pair(a, b)) => Ok((a, b)),
-        None | Some(Type::Unit | Type::Number | Type::Either(_, _)) => Err(TypeFault::Type(at)),
-    }
-}
-
-// The sides of a type that has to be an either.
-fn either_parts(at: usize, types: &[Type], y: TypeId) -> Result<(TypeId, TypeId), TypeFault>
-    ensures { result ≡ there_at at (either_parts (slice_get types.now y.index)) }
-{
-    match type_at(types, y) {
-        Some(Type::Either(a, b)) => Ok((a, b)),
-        None | Some(Type::Unit | Type::Number | Type::Pair(_, _)) => Err(TypeFault::Type(at)),
-    }
-}
-
-// The scope with one level more inside, if there is room.
-fn opened(at: usize, scope: Scope, y: TypeId) -> Result<Scope, TypeFault>
-    requires { scope.len ≤ 16 }
-    ensures { ScopeAnswer (opened at (scope_of scope) y) result }
-{
-    if scope.len + 1 <= MAX_LEVELS {
-        Ok(scope.with(y))
-    } else {
-        Err(TypeFault::Scope(at))
-    }
-}
-
-// The scope with two levels more inside, if there is room for both.
-fn opened_twice(at: usize, scope: Scope, outer: TypeId, inner: TypeId) -> Result<Scope, TypeFault>
-    requires { scope.len ≤ 16 }
-    ensures { ScopeAnswer (opened_twice at (scope_of scope) (outer, inner)) result }
-{
-    if scope.len + 2 <= MAX_LEVELS {
-        Ok(scope.with(outer).with(inner))
-    } else {
-        Err(TypeFault::Scope(at))
-    }
+    scope
+        .try_extend_from_slice(levels)
+        .map_err(|_| TypeFault::Scope(at))
 }
 
 // The type y, if x is what it has to be.
 fn agree(at: usize, x: TypeId, wanted: TypeId, y: TypeId) -> Result<TypeId, TypeFault>
     ensures { result ≡ if_same at x wanted (Ok y) }
 {
-    if x.index == wanted.index {
+    if x == wanted {
         Ok(y)
     } else {
         Err(TypeFault::Type(at))
@@ -118,131 +56,126 @@ fn agree(at: usize, x: TypeId, wanted: TypeId, y: TypeId) -> Result<TypeId, Type
 }
 
 // The type y, if both kids are numbers.
-fn two_numbers(at: usize, kids: KidTypes, y: TypeId) -> Result<TypeId, TypeFault>
-    requires { kids.len ≤ 8 }
-    ensures { result ≡ two_numbers at (kids_known kids) y }
+fn two_numbers(at: usize, kids: &[TypeId], y: TypeId) -> Result<TypeId, TypeFault>
+    ensures { result ≡ two_numbers at kids.now y }
 {
-    if kids.at(0).index == NUMBER.index && kids.at(1).index == NUMBER.index {
+    if kid(kids, 0) == NUMBER && kid(kids, 1) == NUMBER {
         Ok(y)
     } else {
         Err(TypeFault::Type(at))
     }
 }
 
-// The scope of the next kid behind `known` others, the first of which has the type `first`.
-fn inner_scope(
-    types: &[Type],
-    legs: &[Leg],
-    at: usize,
-    node: Node,
-    scope: Scope,
-    first: TypeId,
-    known: usize,
-) -> Result<Scope, TypeFault>
-    requires { scope.len ≤ 16 }
-    ensures { ScopeAnswer (inner_scope (world types.now legs.now) (scope_of scope) at node first known) result }
-{
-    match node {
-        Node::Let(_) | Node::Take(_) => opened(at, scope, first),
-        Node::Split(_) => {
-            let (a, b) = pair_parts(at, types, first)?;
-            opened_twice(at, scope, a, b)
+impl World<'_> {
+    // The number of a type that has to be in the table.
+    fn number_of(&self, at: usize, y: Type) -> Result<TypeId, TypeFault>
+        ensures { result ≡ there_at at (number_of y self.now.plan.now.types.items) }
+    {
+        match place_of(self.plan.types.as_slice(), y) {
+            Some(index) => Ok(TypeId { index: index as u8 }),
+            None => Err(TypeFault::Type(at)),
         }
-        Node::Case(_) => {
-            let (left, right) = either_parts(at, types, first)?;
-            opened(at, scope, if known == 1 { left } else { right })
-        }
-        _ => Ok(scope),
     }
-}
 
-// The scope of the next kid, once those before it have their types.
-pub(crate) fn kid_scope(
-    types: &[Type],
-    legs: &[Leg],
-    at: usize,
-    node: Node,
-    scope: Scope,
-    kids: KidTypes,
-) -> Result<Scope, TypeFault>
-    requires scope { scope.len ≤ 16 }
-    requires kids { kids.len ≤ 8 }
-    ensures { ScopeAnswer (kid_scope (world types.now legs.now) (scope_of scope) at node (kids_known kids)) result }
-{
-    if kids.len == 0 {
-        Ok(scope)
-    } else {
-        inner_scope(types, legs, at, node, scope, kids.at(0), kids.len)
+    // The type that a number stands for, if it does.
+    fn type_at(&self, y: TypeId) -> Option<Type>
+        ensures { result ≡ slice_get self.now.plan.now.types.items y.index }
+    {
+        self.plan.types.get(usize::from(y.index)).copied()
     }
-}
 
-// Whether the arguments of a call have the types that its leg takes.
-fn takes(leg: Leg, kids: KidTypes) -> bool
-    requires leg { leg.count ≤ 8 }
-    requires kids { kids.len ≤ 8 }
-    ensures { result ≡ same_list (kids_known kids) (params_of leg) }
-{
-    if kids.len != leg.count as usize {
-        return false;
-    }
-    for k in 0..kids.len {
-        if kids.types[k].index != leg.params[k].index {
-            return false;
+    // The sides of a type that has to be an either.
+    fn either_parts(&self, at: usize, y: TypeId) -> Result<(TypeId, TypeId), TypeFault>
+        ensures { result ≡ there_at at (either_parts (slice_get self.now.plan.now.types.items y.index)) }
+    {
+        match self.type_at(y) {
+            Some(Type::Either(left, right)) => Ok((left, right)),
+            _ => Err(TypeFault::Type(at)),
         }
     }
-    true
-}
 
-// What a call gives.
-fn call_type(legs: &[Leg], at: usize, leg: LegId, kids: KidTypes) -> Result<TypeId, TypeFault>
-    requires legs { EachFew legs.now }
-    requires kids { kids.len ≤ 8 }
-    ensures { result ≡ call_type at (sigs_of legs.now) leg (kids_known kids) }
-{
-    if (leg.index as usize) < legs.len() {
-        let callee = legs[leg.index as usize];
-        if takes(callee, kids) {
-            return Ok(callee.result);
+    // Brings into scope what the next kid behind `known` others sees, the first of which has the type `first`.
+    fn open_inner(
+        &self,
+        at: usize,
+        node: Node,
+        scope: &mut Scope,
+        first: TypeId,
+        known: usize,
+    ) -> Result<(), TypeFault>
+        ensures { Opens (inner_scope (world_in self.now.plan.now) (scope_of scope.old.items) at node first known) scope.old.items result scope.new.items }
+    {
+        match node {
+            Node::Let(_) | Node::Take(_) => open(at, scope, &[first]),
+            Node::Split(_) => match self.type_at(first) {
+                Some(Type::Pair(a, b)) => open(at, scope, &[a, b]),
+                _ => Err(TypeFault::Type(at)),
+            },
+            Node::Case(_) => {
+                let (left, right) = self.either_parts(at, first)?;
+                open(at, scope, &[if known == 1 { left } else { right }])
+            }
+            _ => Ok(()),
         }
     }
-    Err(TypeFault::Type(at))
-}
 
-// The type of a node whose kids have their types.
-pub(crate) fn node_type(
-    types: &[Type],
-    legs: &[Leg],
-    at: usize,
-    node: Node,
-    scope: Scope,
-    kids: KidTypes,
-) -> Result<TypeId, TypeFault>
-    requires types { length types.now ≤ 32 }
-    requires legs { EachFew legs.now }
-    requires scope { scope.len ≤ 16 }
-    requires kids { kids.len ≤ 8 }
-    ensures { result ≡ node_type (world types.now legs.now) (scope_of scope) at node (kids_known kids) }
-{
-    match node {
-        Node::Unit => Ok(UNIT),
-        Node::Number(_) => Ok(NUMBER),
-        Node::Name(level) => match scope.level(level) {
-            Some(y) => Ok(y),
-            None => Err(TypeFault::Name(at)),
-        },
-        Node::Let(_) | Node::Take(_) | Node::Split(_) => Ok(kids.at(1)),
-        Node::Pair => number_of(at, types, Type::Pair(kids.at(0), kids.at(1))),
-        Node::Left(y) => {
-            let (left, _) = either_parts(at, types, y)?;
-            agree(at, kids.at(0), left, y)
+    // Brings into scope what the next kid sees, once those before it have their types.
+    pub(crate) fn open_kid(
+        &self,
+        at: usize,
+        node: Node,
+        scope: &mut Scope,
+        kids: &[TypeId],
+    ) -> Result<(), TypeFault>
+        ensures { Opens (kid_scope (world_in self.now.plan.now) (scope_of scope.old.items) at node kids.now) scope.old.items result scope.new.items }
+    {
+        match kids {
+            [] => Ok(()),
+            [first, ..] => self.open_inner(at, node, scope, *first, kids.len()),
         }
-        Node::Right(y) => {
-            let (_, right) = either_parts(at, types, y)?;
-            agree(at, kids.at(0), right, y)
+    }
+
+    // What a call gives, if its arguments have the types that its leg takes.
+    fn call_type(&self, at: usize, leg: LegId, kids: &[TypeId]) -> Result<TypeId, TypeFault>
+        ensures { result ≡ call_type at (sigs_of self.now.plan.now.legs.items) leg kids.now }
+    {
+        match self.plan.legs.get(usize::from(leg.index)) {
+            Some(callee) if kids == callee.params.as_slice() => Ok(callee.result),
+            _ => Err(TypeFault::Type(at)),
         }
-        Node::Case(_) => agree(at, kids.at(1), kids.at(2), kids.at(1)),
-        Node::Call(leg, _) => call_type(legs, at, leg, kids),
-        Node::Add => two_numbers(at, kids, NUMBER),
-        Node::Less => two_numbers(at, kids, TRUTH),
+    }
+
+    // The type of a node whose kids have their types.
+    pub(crate) fn node_type(
+        &self,
+        at: usize,
+        node: Node,
+        scope: &[TypeId],
+        kids: &[TypeId],
+    ) -> Result<TypeId, TypeFault>
+        ensures { result ≡ node_type (world_in self.now.plan.now) (scope_of scope.now) at node kids.now }
+    {
+        match node {
+            Node::Unit => Ok(UNIT),
+            Node::Number(_) => Ok(NUMBER),
+            Node::Name(level) => match scope.get(usize::from(level.index)) {
+                Some(y) => Ok(*y),
+                None => Err(TypeFault::Name(at)),
+            },
+            Node::Let(_) | Node::Take(_) | Node::Split(_) => Ok(kid(kids, 1)),
+            Node::Pair => self.number_of(at, Type::Pair(kid(kids, 0), kid(kids, 1))),
+            Node::Left(y) => {
+                let (left, _) = self.either_parts(at, y)?;
+                agree(at, kid(kids, 0), left, y)
+            }
+            Node::Right(y) => {
+                let (_, right) = self.either_parts(at, y)?;
+                agree(at, kid(kids, 0), right, y)
+            }
+            Node::Case(_) => agree(at, kid(kids, 1), kid(kids, 2), kid(kids, 1)),
+            Node::Call(leg, _) => self.call_type(at, leg, kids),
+            Node::Add => two_numbers(at, kids, NUMBER),
+            Node::Less => two_numbers(at, kids, TRUTH),
+        }
     }
 }

@@ -15,11 +15,6 @@ pub fn read_typed(heap: Global, bytes: &[u8]) -> Result<TypedPlan, PlanFault>
 {
     let plan = read(heap, bytes)?;
     let mut levels: Vec<u8> = Vec::with_capacity(heap, plan.nodes.len())?;
-    type_legs(
-        plan.types.as_slice(),
-        plan.legs.as_slice(),
-        plan.nodes.as_slice(),
-        &mut levels,
-    )?;
+    type_legs(&plan, &mut levels)?;
     Ok(TypedPlan { plan, levels })
 }
