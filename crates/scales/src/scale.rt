@@ -9,6 +9,7 @@ pub enum Ceiling {
     Unbounded,
 }
 
+// One trait, and not `Add`, `Mul` and `PartialOrd`, since the laws tie the operations to one another.
 pub trait Scale: Copy {
     ghost ops: { Ops Self };
 
