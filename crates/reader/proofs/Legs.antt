@@ -1,5 +1,5 @@
 -- A leg, from its parts. Assumes nothing.
-use Rattle.std.proofs.Common.{◌≡◌, ℕ, ◌+◌, ◌-◌, ◌*◌, ◌<◌, ◌≤◌, Bool, true, false, List, [], ◌∷◌, ◌++◌, length, drop, Ok, Err, Result, sym, refl, ap, ◌∙◌, subst, ap₂, arith, length-append, Bor}
+use Rattle.std.proofs.Common.{◌≡◌, ℕ, ◌+◌, ◌-◌, ◌*◌, ◌<◌, ◌≤◌, Bool, true, false, List, [], ◌∷◌, ◌++◌, length, drop, Ok, Err, sym, refl, ap, ◌∙◌, subst, ap₂, arith, length-append}
 use mathlib.Core.Option.{some, none}
 use Rattle.std.proofs.lemmas.List.{drop_at, get_or_append_left}
 use Rattle.plan.specs.declared.faults.ReadFault.TheVariants.{Shape as NotOne}
@@ -12,11 +12,9 @@ use Rattle.plan.specs.Kinds.{binders}
 use Rattle.plan.specs.Written.{with_node, binders_in, with_leg}
 use Rattle.plan.specs.declared.Node.TheVariants.{Unit as Unit', Number, Name, Let, Take, Pair, Split, Left, Right, Case, Call, Add, Less}
 use Rattle.plan.specs.Table.{nodes_of, top, term_at, no_row, node_size, Standing, InOrder, is_one, Closed}
-use Rattle.reader.specs.Reading.{Got, then_read, many, read_params, read_type, read_count, read_node, read_body, read_leg, single, read_front}
+use Rattle.reader.specs.Reading.{Got, then_read, many, read_params, read_type, read_count, read_node, read_body, read_leg, single}
 use Rattle.plan.specs.Plans.{params_of, leg_in, legs_in}
-use Rattle.reader.specs.Replies.{arities_of, before_of, LegRead, TableAnswer, MapAnswer}
-use Rattle.plan.specs.declared.faults.ReadFault.{ReadFault}
-use Rattle.plan.specs.declared.Type.{«Type» as Shape}
+use Rattle.reader.specs.Replies.{arities_of, before_of, LegRead}
 use Rattle.plan.proofs.Stacks.{one_back_flat}
 use Rattle.plan.proofs.Ends.{nodes_length}
 use Rattle.plan.proofs.More.{trees_kept, standing_more}
@@ -35,20 +33,30 @@ single_gives at (some (t ∷ [])) r e = (refl, refl)
 single_gives at (some (t ∷ u ∷ ts)) r e = absurd (let z : ◌≡◌ {A = ℕ} 0 1 = cc in omega arith)
 
 module _ (all types : ℕ) (gs : List FlatLeg) (binder : ℕ) (before new : List Row) (bs r1 r2 r3 r4 : List ℕ) (ps : List TypeId) (k : ℕ) (y : TypeId) (n : ℕ)
-    (e1 : read_params all types bs ≡ Ok (ps, r1)) (e2 : read_type all types r1 ≡ Ok (y, r2)) (e3 : read_count all (length before) r2 ≡ Ok (n, r3))
-    (ek : k ≡ length ps) (e4 : many with_node (read_node all types (arities_of gs)) n (binder + k) r3 ≡ Ok (nodes_of new, r4)) where
+    (all1 all2 all3 : ℕ) (q1 : all1 ≡ all) (q2 : all2 ≡ all1) (q3 : all3 ≡ all2)
+    (e1 : read_params all types bs ≡ Ok (ps, r1)) (e2 : read_type all1 types r1 ≡ Ok (y, r2)) (e3 : read_count all2 (length before) r2 ≡ Ok (n, r3))
+    (ek : k ≡ length ps) (e4 : many with_node (read_node all3 types (arities_of gs)) n (binder + k) r3 ≡ Ok (nodes_of new, r4)) where
+  then_type : read_type all types r1 ≡ Ok (y, r2)
+  then_type = subst (λ a. read_type a types r1 ≡ Ok (y, r2)) q1 e2
+
+  then_count : read_count all (length before) r2 ≡ Ok (n, r3)
+  then_count = subst (λ a. read_count a (length before) r2 ≡ Ok (n, r3)) (q2 ∙ q1) e3
+
+  then_nodes : many with_node (read_node all types (arities_of gs)) n (binder + k) r3 ≡ Ok (nodes_of new, r4)
+  then_nodes = subst (λ a. many with_node (read_node a types (arities_of gs)) n (binder + k) r3 ≡ Ok (nodes_of new, r4)) (q3 ∙ q2 ∙ q1) e4
+
   abbrev made : Term → List ℕ → Got Leg
   made t r = Ok (record { params = ps; result = y; first = binder; body = t }, r)
 
   body_is : read_body all types (before_of gs binder before) (binder + length ps) r2 ≡ single (all - length r2) (stack (nodes_of new)) r4
   body_is =
-      ap (λ g. then_read g (λ n r. then_read (many with_node (read_node all types (arities_of gs)) n (binder + length ps) r) (λ os r'. single (all - length r2) (stack os) r'))) e3
-      ∙ ap (λ g. then_read g (λ os r'. single (all - length r2) (stack os) r')) (ap (λ j. many with_node (read_node all types (arities_of gs)) n (binder + j) r3) (sym ek) ∙ e4)
+      ap (λ g. then_read g (λ n r. then_read (many with_node (read_node all types (arities_of gs)) n (binder + length ps) r) (λ os r'. single (all - length r2) (stack os) r'))) then_count
+      ∙ ap (λ g. then_read g (λ os r'. single (all - length r2) (stack os) r')) (ap (λ j. many with_node (read_node all types (arities_of gs)) n (binder + j) r3) (sym ek) ∙ then_nodes)
 
   leg_is : read_leg all types (before_of gs binder before) bs ≡ then_read (single (all - length r2) (stack (nodes_of new)) r4) made
   leg_is =
       ap (λ g. then_read g (λ ps r. then_read (read_type all types r) (λ y r'. then_read (read_body all types (before_of gs binder before) (binder + length ps) r') (λ t r''. Ok (record { params = ps; result = y; first = binder; body = t }, r''))))) e1
-      ∙ ap (λ g. then_read g (λ y r'. then_read (read_body all types (before_of gs binder before) (binder + length ps) r') (λ t r''. Ok (record { params = ps; result = y; first = binder; body = t }, r'')))) e2
+      ∙ ap (λ g. then_read g (λ y r'. then_read (read_body all types (before_of gs binder before) (binder + length ps) r') (λ t r''. Ok (record { params = ps; result = y; first = binder; body = t }, r'')))) then_type
       ∙ ap (λ g. then_read g made) body_is
 
   behind_is : drop (length before) (nodes_of (before ++ new)) ≡ nodes_of new
@@ -59,9 +67,9 @@ module _ (all types : ℕ) (gs : List FlatLeg) (binder : ℕ) (before new : List
       leg_is ∙ ap (λ g. then_read g made) (single_fails (all - length r2) (stack (nodes_of new)) r4 (ap (λ os. is_one (stack os)) (sym behind_is) ∙ sym c.one ∙ q))
 
   pub leg_made : (after : List Row) (r : Bool) (g : FlatLeg) (next : ℕ) → r ≡ true → Closed (length before) (before ++ new) after r → Standing 0 before
-      → params_of g ≡ ps → g.result ≡ y → g.binder.index ≡ binder → k ≤ 8 → g.first ≡ length before → next ≡ binders_in (binder + k) (nodes_of new) → length r4 ≤ length bs
+      → params_of g ≡ ps → g.result ≡ y → g.binder.index ≡ binder → k ≤ 8 → g.first ≡ length before → next ≡ binders_in (binder + k) (nodes_of new)
       → LegRead all types gs binder bs before after g next r4
-  leg_made after r g next q c s ep ey eb few ef en sh =
+  leg_made after r g next q c s ep ey eb few ef en =
       let one : is_one (stack (nodes_of new)) ≡ true = ap (λ os. is_one (stack os)) (sym behind_is) ∙ sym c.one ∙ q in
       let w = single_gives (all - length r2) (stack (nodes_of new)) r4 one in
       let t = top (stack (nodes_of new)) in
@@ -77,7 +85,6 @@ module _ (all types : ℕ) (gs : List FlatLeg) (binder : ℕ) (before new : List
         next_is = en ∙ ap₂ (λ m os. binders_in (binder + m) os) (ek ∙ ap length (sym ep)) (sym flat_in);
         few = subst (λ m. m ≤ 8) (ek ∙ ap length (sym ep)) few;
         first_is = ef;
-        shorter = sh;
         stands = standing_more before after (nodes_of new) s st candidates kept;
         longer = lens ∙ ap (λ os. length before + length os) (sym flat_in);
         kept = trees_kept before after (nodes_of new) s st candidates kept;
@@ -137,7 +144,3 @@ binders_few Less = omega arith
 pub binders_bound : (k : ℕ) (os : List Node) → binders_in k os ≤ k + 2 * length os
 binders_bound k [] = omega arith
 binders_bound k (o ∷ os) = let f = binders_few o in let h = binders_bound (with_node k o) os in omega arith
-
-pub map_of_table : (all : ℕ) (bs rest : List ℕ) (after : List Shape) (r : Result (Bor (List ℕ)) ReadFault) → bs ≡ 6 ∷ rest → length rest ≤ length bs → TableAnswer all rest after r → MapAnswer all bs after r
-map_of_table all bs rest after (Ok x) e le t = let s = t.3 in (t.0, t.1, ap (read_front all) e ∙ t.2, omega arith)
-map_of_table all bs rest after (Err f) e le t = ap (read_front all) e ∙ t

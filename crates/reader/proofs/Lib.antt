@@ -5,3 +5,4 @@ mod Slices
 mod Loops
 mod Legs
 mod Whole
+pub mod Drafts

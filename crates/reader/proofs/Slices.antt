@@ -1,10 +1,9 @@
 -- The front of a slice, and what is read there. Assumes nothing.
-use Rattle.std.proofs.Common.{◌≡◌, ℕ, zero, suc, ◌+◌, ◌-◌, ◌*◌, ◌<◌, ◌≤◌, true, cond, ◌||◌, eqb, leb, List, [], ◌∷◌, length, get_or, Some, None, Ok, Err, Option, Result, sym, refl, ap, ◌∙◌, subst, arith, Bor, le-ltb, lt-ltb, le-leb}
+use Rattle.std.proofs.Common.{◌≡◌, ℕ, zero, suc, ◌+◌, ◌-◌, ◌*◌, ◌<◌, ◌≤◌, true, cond, ◌||◌, eqb, leb, List, [], ◌∷◌, length, get_or, Some, None, Ok, Err, Option, sym, refl, ap, ◌∙◌, arith, le-ltb, lt-ltb, le-leb}
 use Rattle.std.proofs.lemmas.List.{take_rest}
 use Rattle.plan.specs.declared.faults.ReadFault.TheVariants.{Limit, «Ref»}
 use Rattle.plan.specs.declared.Type.{«Type» as Shape}
-use Rattle.reader.specs.Reading.{Got, not_zero, by_shape, read_head, byte_if, read_type, between, read_count, typed_node, then_read, new_entry, entry_of, read_entry}
-use Rattle.plan.specs.declared.faults.ReadFault.{ReadFault}
+use Rattle.reader.specs.Reading.{Got, by_shape, read_head, byte_if, read_type, between, read_count, typed_node, then_read, new_entry, entry_of, read_entry}
 use Rattle.plan.specs.declared.Leg.{Leg as FlatLeg}
 use Rattle.plan.specs.declared.Node.{Node}
 use Rattle.plan.specs.declared.Node.TheVariants.{Call}
@@ -15,10 +14,8 @@ use Rattle.plan.specs.Limits.{max_nodes}
 use Rattle.plan.proofs.Fronts.{rest_of}
 use Rattle.plan.specs.declared.kinds.Field.{Field}
 use Rattle.plan.specs.Kinds.{shape_of}
-use Rattle.plan.specs.Kinds.{number_of}
-use Rattle.plan.specs.declared.kinds.NodeKind.{NodeKind}
 use Rattle.plan.specs.Plans.{params_of}
-use Rattle.reader.specs.Replies.{arities_of, ValueAnswer, HeadAnswer}
+use Rattle.reader.specs.Replies.{arities_of}
 
 pub front2 : (bs : List ℕ) → 2 ≤ length bs → bs ≡ get_or bs 0 0 ∷ get_or bs 1 0 ∷ rest_of 2 bs
 front2 [] h = absurd (omega arith)
@@ -87,10 +84,3 @@ entry_read all ts bs tag a b rest r r' q t e f =
 pub head_by : (all : ℕ) (bs : List ℕ) (h : ℕ) (rest : List ℕ) (s : Option (ℕ × Field)) → bs ≡ h ∷ rest → shape_of h ≡ s → read_head all bs ≡ by_shape all (all - length bs) s rest
 head_by all bs h rest s e q =
     ap (read_head all) e ∙ ap (λ x. by_shape all (all - length (h ∷ rest)) x rest) q ∙ ap (λ l. by_shape all (all - length l) s rest) (sym e)
-
--- What a written field gives is what its node's first byte gives.
-pub valued : (all at : ℕ) (k : NodeKind) (v : ℕ) (bs rest : List ℕ) (r : Result (NodeKind × ℕ × Bor (List ℕ)) ReadFault) → read_head all bs ≡ not_zero at (number_of k) v rest → length rest < length bs → ((number_of k ≡ 1 → ⊥) → v < 256)
-    → ValueAnswer at k v rest r → HeadAnswer bs (read_head all bs) r
-valued all at k v bs rest (Ok p) e short small a =
-    (e ∙ a.0, subst (λ l. length l < length bs) (sym a.3) short, λ z. subst (λ x. x < 256) (sym a.2) (small (λ q. z (ap number_of a.1 ∙ q))))
-valued all at k v bs rest (Err f) e short small a = e ∙ a

@@ -1,52 +1,85 @@
 -- What the reader's functions answer, beside what is defined. Assumes nothing.
-use Rattle.std.specs.Prelude.{◌≡◌, ℕ, ◌<◌, ◌≤◌, List, [], ◌∷◌, ◌++◌, length, drop, Ok, Err, Result, ◌≢◌}
-use Rattle.std.specs.Borrow.{Bor}
+use Rattle.std.specs.Prelude.{◌≡◌, ℕ, ◌-◌, ◌<◌, ◌≤◌, List, [], ◌∷◌, ◌++◌, length, drop, Ok, Err, Result, Option as Maybe, ◌≢◌, vec_items, vec_len}
 use Rattle.plan.specs.declared.faults.ReadFault.{ReadFault}
+use Rattle.plan.specs.declared.faults.ReadFault.TheVariants.{Cut}
 use Rattle.plan.specs.declared.faults.PlanFault.{PlanFault}
 use Rattle.plan.specs.declared.faults.PlanFault.TheVariants.{Read, Typing, Memory}
 use Rattle.plan.specs.declared.Plan.{Plan as FlatPlan}
 use Rattle.plan.specs.declared.Leg.{Leg as FlatLeg}
 use Rattle.plan.specs.declared.Row.{Row}
+use Rattle.plan.specs.declared.Node.{Node}
 use Rattle.plan.specs.declared.TypeId.{TypeId}
 use Rattle.plan.specs.declared.kinds.NodeKind.{NodeKind}
 use Rattle.arrayvec.specs.ArrayVec.{ArrayVec}
 use Rattle.plan.specs.declared.Type.{«Type» as Shape}
-use Rattle.reader.specs.Reading.{Got, Head, not_zero, many, read_node, read_table, read_params, read_leg, read_legs, read_front, read}
+use Rattle.reader.specs.declared.input.Input.{Input}
+use Rattle.reader.specs.declared.draft.Draft.{Draft}
+use Rattle.reader.specs.Reading.{Got, not_zero, many, read_head, node_of, read_node, read_table, read_params, read_leg, read_legs, read_front, read}
 use Rattle.plan.specs.Kinds.{number_of}
 use Rattle.plan.specs.Written.{with_node, binders_in, built_in, Before, with_leg}
 use Rattle.plan.specs.Table.{nodes_of, term_at, Standing, InOrder}
 use Rattle.plan.specs.Plans.{params_of, leg_in, legs_in, plan_in, tree, Sound}
 
--- The code's answer is the definition's, with what the slice holds for the slice, and the rest is no longer than the bytes.
-abbrev pub Answer : {X : Type 0} → List ℕ → Got X → Result (X × Bor (List ℕ)) ReadFault → Type 0
-Answer bs g (Ok p) = (g ≡ Ok (p.0, p.1.now)) × (length p.1.now ≤ length bs)
-Answer bs g (Err e) = g ≡ Err e
+-- The code's answer is the definition's, at what was left of the input and what is left then.
+abbrev pub Reads : {X : Type 0} → (ℕ → List ℕ → Got X) → Input → Input → Result X ReadFault → Type 0
+Reads P before after (Ok x) = (P before.all before.rest.now ≡ Ok (x, after.rest.now)) × (after.all ≡ before.all)
+Reads P before after (Err e) = P before.all before.rest.now ≡ Err e
 
-abbrev pub ValueAnswer : ℕ → NodeKind → ℕ → List ℕ → Result (NodeKind × ℕ × Bor (List ℕ)) ReadFault → Type 0
-ValueAnswer at k v rest (Ok p) = (not_zero at (number_of k) v rest ≡ Ok (number_of p.0, p.1, p.2.now)) × (p.0 ≡ k) × (p.1 ≡ v) × (p.2.now ≡ rest)
-ValueAnswer at k v rest (Err e) = not_zero at (number_of k) v rest ≡ Err e
+abbrev pub first_byte : ℕ → List ℕ → Got ℕ
+first_byte all [] = Err (Cut all)
+first_byte all (b ∷ bs) = Ok (b, bs)
 
-abbrev pub HeadAnswer : List ℕ → Head → Result (NodeKind × ℕ × Bor (List ℕ)) ReadFault → Type 0
-HeadAnswer bs g (Ok p) = (g ≡ Ok (number_of p.0, p.1, p.2.now)) × (length p.2.now < length bs) × ((number_of p.0 ≢ 1) → p.1 < 256)
-HeadAnswer bs g (Err e) = g ≡ Err e
+abbrev pub FieldRead : NodeKind → ℕ → List ℕ → Input → Input → Result (NodeKind × ℕ) ReadFault → Type 0
+FieldRead k v rest before after (Ok p) =
+    (not_zero (before.all - length before.rest.now) (number_of k) v rest ≡ Ok (number_of p.0, p.1, after.rest.now)) × (p.0 ≡ k) × (p.1 ≡ v) × (after.rest.now ≡ rest) × (after.all ≡ before.all)
+FieldRead k v rest before after (Err e) = not_zero (before.all - length before.rest.now) (number_of k) v rest ≡ Err e
+
+abbrev pub HeadRead : Input → Input → Result (NodeKind × ℕ) ReadFault → Type 0
+HeadRead before after (Ok p) =
+    (read_head before.all before.rest.now ≡ Ok (number_of p.0, p.1, after.rest.now)) × (after.all ≡ before.all) × (length after.rest.now < length before.rest.now) × ((number_of p.0 ≢ 1) → p.1 < 256)
+HeadRead before after (Err e) = read_head before.all before.rest.now ≡ Err e
 
 abbrev pub arities_of : List FlatLeg → List ℕ
 arities_of [] = []
 arities_of (g ∷ gs) = length (params_of g) ∷ arities_of gs
 
+-- A draft in which nothing is read.
+pub record Empty (d : Draft) : Type 0 where
+  pub types : vec_items d.types ≡ []
+  pub legs : vec_items d.legs ≡ []
+  pub nodes : vec_items d.nodes ≡ []
+  pub binders : d.next ≡ 0
+
+-- The node of a kind and a value, or of the input, behind what a draft has.
+abbrev pub kinded_in : Draft → ℕ → ℕ → Maybe Node
+kinded_in d kind value = node_of (vec_len d.types) (arities_of (vec_items d.legs)) d.next kind value
+
+abbrev pub node_in : Draft → ℕ → List ℕ → Got Node
+node_in d all bs = read_node all (vec_len d.types) (arities_of (vec_items d.legs)) d.next bs
+
 -- Nodes read onto others.
-abbrev pub NodesAnswer : ℕ → ℕ → List ℕ → ℕ → ℕ → List ℕ → List Row → List Row → Result (ℕ × Bor (List ℕ)) ReadFault → Type 0
-NodesAnswer all types arities count binder bs before after (Ok p) =
-    (new : List Row) × (after ≡ before ++ new) × (many with_node (read_node all types arities) count binder bs ≡ Ok (nodes_of new, p.1.now)) × (p.0 ≡ binders_in binder (nodes_of new)) × (length new ≡ count) × (length p.1.now ≤ length bs)
-NodesAnswer all types arities count binder bs before after (Err e) = many with_node (read_node all types arities) count binder bs ≡ Err e
+abbrev pub NodesRead : ℕ → Draft → Draft → Input → Input → Result (Unit {0}) ReadFault → Type 0
+NodesRead count d e before after (Ok u) =
+    (new : List Row) × (vec_items e.nodes ≡ vec_items d.nodes ++ new)
+    × (many with_node (read_node before.all (vec_len d.types) (arities_of (vec_items d.legs))) count d.next before.rest.now ≡ Ok (nodes_of new, after.rest.now))
+    × (e.next ≡ binders_in d.next (nodes_of new)) × (length new ≡ count) × (after.all ≡ before.all) × (e.types ≡ d.types) × (e.legs ≡ d.legs)
+NodesRead count d e before after (Err f) = many with_node (read_node before.all (vec_len d.types) (arities_of (vec_items d.legs))) count d.next before.rest.now ≡ Err f
 
-abbrev pub TableAnswer : ℕ → List ℕ → List Shape → Result (Bor (List ℕ)) ReadFault → Type 0
-TableAnswer all bs after (Ok rest) = (es : List Shape) × (after ≡ built_in ++ es) × (read_table all bs ≡ Ok (es, rest.now)) × (length rest.now ≤ length bs)
-TableAnswer all bs after (Err e) = read_table all bs ≡ Err e
+-- what reading types leaves alone
+abbrev pub OnlyTypes : Draft → Draft → Type 0
+OnlyTypes d e = (e.legs ≡ d.legs) × (e.nodes ≡ d.nodes) × (e.next ≡ d.next)
 
-abbrev pub ParamsAnswer : ℕ → ℕ → List ℕ → Result (ArrayVec TypeId × Bor (List ℕ)) ReadFault → Type 0
-ParamsAnswer all types bs (Ok p) = (read_params all types bs ≡ Ok (p.0.items, p.1.now)) × (length p.0.items ≤ 8) × (length p.1.now ≤ length bs)
-ParamsAnswer all types bs (Err e) = read_params all types bs ≡ Err e
+abbrev pub TableRead : Draft → Draft → Input → Input → Result (Unit {0}) ReadFault → Type 0
+TableRead d e before after (Ok u) = (es : List Shape) × (vec_items e.types ≡ built_in ++ es) × (read_table before.all before.rest.now ≡ Ok (es, after.rest.now)) × (after.all ≡ before.all) × OnlyTypes d e
+TableRead d e before after (Err f) = read_table before.all before.rest.now ≡ Err f
+
+abbrev pub FrontRead : Draft → Draft → Input → Input → Result (Unit {0}) ReadFault → Type 0
+FrontRead d e before after (Ok u) = (es : List Shape) × (vec_items e.types ≡ built_in ++ es) × (read_front before.all before.rest.now ≡ Ok (es, after.rest.now)) × (after.all ≡ before.all) × OnlyTypes d e
+FrontRead d e before after (Err f) = read_front before.all before.rest.now ≡ Err f
+
+abbrev pub ParamsRead : ℕ → Input → Input → Result (ArrayVec TypeId) ReadFault → Type 0
+ParamsRead types before after (Ok ps) = (read_params before.all types before.rest.now ≡ Ok (ps.items, after.rest.now)) × (after.all ≡ before.all) × (length ps.items ≤ 8)
+ParamsRead types before after (Err e) = read_params before.all types before.rest.now ≡ Err e
 
 abbrev pub before_of : List FlatLeg → ℕ → List Row → Before
 before_of gs binder ns = record { arities = arities_of gs; next = binder; used = length ns }
@@ -57,26 +90,24 @@ pub record LegRead (all types : ℕ) (gs : List FlatLeg) (binder : ℕ) (bs : Li
   pub next_is : next ≡ (with_leg (before_of gs binder before) (leg_in after g)).next
   pub few : length (params_of g) ≤ 8
   pub first_is : g.first ≡ length before
-  pub shorter : length rest ≤ length bs
   pub stands : Standing 0 after
   pub longer : length after ≡ (with_leg (before_of gs binder before) (leg_in after g)).used
   pub kept : (i : ℕ) → i < length before → term_at after i ≡ term_at before i
 
-abbrev pub LegAnswer : ℕ → ℕ → List FlatLeg → ℕ → List ℕ → List Row → List Row → Result (FlatLeg × ℕ × Bor (List ℕ)) ReadFault → Type 0
-LegAnswer all types gs binder bs before after (Ok p) = LegRead all types gs binder bs before after p.0 p.1 p.2.now
-LegAnswer all types gs binder bs before after (Err e) = read_leg all types (before_of gs binder before) bs ≡ Err e
+abbrev pub LegAnswer : Draft → Draft → Input → Input → Result FlatLeg ReadFault → Type 0
+LegAnswer d e before after (Ok g) =
+    LegRead before.all (vec_len d.types) (vec_items d.legs) d.next before.rest.now (vec_items d.nodes) (vec_items e.nodes) g e.next after.rest.now × (after.all ≡ before.all) × (e.types ≡ d.types) × (e.legs ≡ d.legs)
+LegAnswer d e before after (Err f) = read_leg before.all (vec_len d.types) (before_of (vec_items d.legs) d.next (vec_items d.nodes)) before.rest.now ≡ Err f
 
-abbrev pub LegsAnswer : ℕ → ℕ → List ℕ → List FlatLeg → List Row → Result (Bor (List ℕ)) ReadFault → Type 0
-LegsAnswer all types bs gs ns (Ok rest) = (read_legs all types bs ≡ Ok (legs_in ns gs, rest.now)) × Standing 0 ns × InOrder 0 ns gs × (length rest.now ≤ length bs)
-LegsAnswer all types bs gs ns (Err e) = read_legs all types bs ≡ Err e
+abbrev pub LegsRead : Draft → Draft → Input → Input → Result (Unit {0}) ReadFault → Type 0
+LegsRead d e before after (Ok u) =
+    (read_legs before.all (vec_len d.types) before.rest.now ≡ Ok (legs_in (vec_items e.nodes) (vec_items e.legs), after.rest.now)) × Standing 0 (vec_items e.nodes) × InOrder 0 (vec_items e.nodes) (vec_items e.legs) × (after.all ≡ before.all) × (e.types ≡ d.types)
+LegsRead d e before after (Err f) = read_legs before.all (vec_len d.types) before.rest.now ≡ Err f
 
-abbrev pub TablesAnswer : List ℕ → List Shape → List FlatLeg → List Row → Result (Unit {0}) ReadFault → Type 0
-TablesAnswer bs ts gs ns (Ok u) = (read bs ≡ Ok (plan_in ts gs ns)) × Standing 0 ns × InOrder 0 ns gs × (ts ≡ built_in ++ drop 3 ts)
-TablesAnswer bs ts gs ns (Err e) = read bs ≡ Err e
-
-abbrev pub MapAnswer : ℕ → List ℕ → List Shape → Result (Bor (List ℕ)) ReadFault → Type 0
-MapAnswer all bs after (Ok rest) = (es : List Shape) × (after ≡ built_in ++ es) × (read_front all bs ≡ Ok (es, rest.now)) × (length rest.now ≤ length bs)
-MapAnswer all bs after (Err e) = read_front all bs ≡ Err e
+abbrev pub PlanRead : List ℕ → Draft → Result (Unit {0}) ReadFault → Type 0
+PlanRead bs d (Ok u) =
+    (read bs ≡ Ok (plan_in (vec_items d.types) (vec_items d.legs) (vec_items d.nodes))) × Standing 0 (vec_items d.nodes) × InOrder 0 (vec_items d.nodes) (vec_items d.legs) × (vec_items d.types ≡ built_in ++ drop 3 (vec_items d.types))
+PlanRead bs d (Err f) = read bs ≡ Err f
 
 -- The plan read, or the first fault. Want of memory says nothing about the bytes, and reading finds no fault of types.
 abbrev pub ReadAnswer : List ℕ → Result FlatPlan PlanFault → Type 0

@@ -14,13 +14,8 @@ fn skip(nodes: &[Row], at: usize, count: usize) -> Option<usize>
     ensures { (ts : List Term) → stack (drop at (nodes_of nodes.now)) ≡ some ts → result ≡ skipped at count ts }
 {
     let mut place = at;
-    let mut k = 0;
-    while k < count {
-        if place >= nodes.len() {
-            return None;
-        }
-        place = nodes[place].end as usize;
-        k += 1;
+    for _ in 0..count {
+        place = usize::from(nodes.get(place)?.end);
     }
     Some(place)
 }
@@ -31,22 +26,11 @@ pub(crate) fn close(nodes: &mut [Row], first: usize) -> bool
     requires few { length nodes.old ≤ 256 }
     ensures { Closed first nodes.old nodes.new result }
 {
-    let all = nodes.len();
-    let mut i = all;
-    while i > first {
-        i -= 1;
-        let node = nodes[i].node;
-        match skip(nodes, i + 1, kids_of(node)) {
-            Some(end) => {
-                nodes[i] = Row {
-                    node,
-                    end: end as u16,
-                };
-            }
-            None => {
-                return false;
-            }
-        }
+    for i in (first..nodes.len()).rev() {
+        let Some(end) = skip(nodes, i + 1, kids_of(nodes[i].node)) else {
+            return false;
+        };
+        nodes[i].end = end as u16;
     }
-    first < all && nodes[first].end as usize == all
+    first < nodes.len() && usize::from(nodes[first].end) == nodes.len()
 }

@@ -1,18 +1,21 @@
-use Rattle.std.proofs.Common.{◌≡◌, ◌+◌, ◌-◌, ◌≤◌, subst, arith}
-use Rattle.plan.specs.Table.{row_at}
+use Rattle.std.proofs.Common.{◌≡◌, ◌+◌, ◌-◌, ◌∙◌, sym, ap, subst, arith}
+use Rattle.plan.specs.Table.{row_at, no_row}
 use Rattle.plan.proofs.Ends.{Skips, skip_next, skip_past}
 use Rattle.reader.proofs.table.skip.Goals as goal
 
-pub returns-then-place-nodes : goal.returns-then-place-nodes
-returns-then-place-nodes c =
-    let i = c.loop-k.invariant in
-    skip_past c.args.nodes.now c.args.at c.args.count c.loop-k.place (c.args.count - c.loop-k.k) (omega arith) (omega arith) i.2
+pub returns-in_err-get : goal.returns-in_err-get
+returns-in_err-get c ts e =
+    let i = c.loop.invariant in
+    let h = c.in_err-get.ensures.lookup in
+    c.from_residual.ensures ∙ skip_past c.args.nodes.now c.args.at c.args.count c.loop.place (c.args.count - c.loop.counter) (grind arith) (omega arith) i.1 ts e
 
-pub loop-k-preserved : goal.loop-k-preserved
-loop-k-preserved c =
-    let i = c.loop-k.invariant in
+pub loop-preserved : goal.loop-preserved
+loop-preserved c =
+    let i = c.loop.invariant in
+    let h = c.in_ok-get.ensures.lookup in
     let ns = c.args.nodes.now in
-    let p = c.loop-k.place in
-    let left : c.args.count - c.loop-k.k - 1 ≡ c.args.count - (c.loop-k.k + 1) = omega arith in
-    let e = c.requires.ended p i.1 (omega arith) in
-    (omega arith, (let z : c.args.at ≤ (row_at ns p).end = omega arith in z), subst (Skips ns c.args.at c.args.count (row_at ns p).end) left (skip_next ns c.args.at c.args.count p (c.args.count - c.loop-k.k) i.1 (omega arith) (omega arith) c.requires.ended i.2))
+    let p = c.loop.place in
+    let row : c.from-place.result ≡ (row_at ns p).end = c.from-place.ensures ∙ ap (λ r. r.end) (h.3.1 no_row) in
+    let left : c.args.count - c.loop.counter - 1 ≡ c.args.count - (c.loop.counter + 1) = omega arith in
+    let e = c.requires.ended p i.0 (omega arith) in
+    (omega arith, subst (λ q. Skips ns c.args.at c.args.count q (c.args.count - (c.loop.counter + 1))) (sym row) (subst (Skips ns c.args.at c.args.count (row_at ns p).end) left (skip_next ns c.args.at c.args.count p (c.args.count - c.loop.counter) i.0 (omega arith) (omega arith) c.requires.ended i.1)))

@@ -1,7 +1,7 @@
 use Rattle.std.proofs.Common.{◌≡◌, length, take, drop, vec_items, sym, refl, subst, rules}
 use Rattle.std.proofs.lemmas.List.{take_at}
 use Rattle.plan.specs.Table.{Closed}
-use Rattle.reader.proofs.close_leg.Goals as goal
+use Rattle.reader.proofs.draft.legs.close_leg.Goals as goal
 
 pub returns : goal.returns
 returns c =
