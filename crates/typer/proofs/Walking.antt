@@ -1,6 +1,7 @@
 -- The walk from kid to kid. Assumes nothing.
 use Rattle.std.proofs.Common.{◌≡◌, ℕ, suc, ◌+◌, ◌<◌, ◌≤◌, Bool, true, false, cond, leb, List, [], ◌∷◌, ◌++◌, length, Some, None, Ok, Err, Option, sym, refl, ap, ◌∙◌, subst, ap₂, append_assoc, append-nil, arith, length-append}
 use lib.Dec.{eqb-suc-zero}
+use Rattle.std.proofs.lemmas.List.{length-reverse}
 use Rattle.std.specs.List.{slice_get}
 use Rattle.plan.specs.declared.TypeId.{TypeId}
 use Rattle.plan.specs.declared.Node.{Node}
@@ -14,7 +15,7 @@ use Rattle.plan.specs.Table.{term_at, row_at, node_size, Stand}
 use Rattle.plan.proofs.Stacks.{flat_all}
 use Rattle.plan.proofs.Kids.{flat_head}
 use Rattle.typer.specs.Typing.{World, Reached, then_type, there_at, pair_parts, either_parts, check, size}
-use Rattle.typer.specs.Walk.{scope_of, opened, opened_twice, side, inner_scope, kid_scope, node_type, check_kids}
+use Rattle.typer.specs.Walk.{scope_of, opened, side, inner_scope, kid_scope, node_type, check_kids}
 use Rattle.typer.specs.Levels.{levels}
 use Rattle.typer.specs.Depths.{inner_depth, kid_depth, kid_levels, FewKids}
 use Rattle.typer.proofs.Views.{view, levels_view, levels_length}
@@ -38,11 +39,10 @@ there_length i None f Δ n h e = absurd (let z : ◌≡◌ {A = ℕ} 0 1 = cc in
 there_length i (Some p) f Δ n h e = h p e
 
 module _ (w : World) (Γ : List TypeId) (i : ℕ) where
-  once : (y : TypeId) (Δ : List TypeId) → opened i Γ y ≡ Ok Δ → length Δ ≡ length Γ + 1
-  once y Δ e = opened_length (leb (1 + length Γ) max_levels) (y ∷ Γ) Δ (BadScope i) e ∙ (let z : suc (length Γ) ≡ length Γ + 1 = omega arith in z)
-
-  twice : (p : TypeId × TypeId) (Δ : List TypeId) → opened_twice i Γ p ≡ Ok Δ → length Δ ≡ length Γ + 2
-  twice p Δ e = opened_length (leb (2 + length Γ) max_levels) (p.1 ∷ p.0 ∷ Γ) Δ (BadScope i) e ∙ (let z : suc (suc (length Γ)) ≡ length Γ + 2 = omega arith in z)
+  more : (ys : List TypeId) (Δ : List TypeId) → opened i Γ ys ≡ Ok Δ → length Δ ≡ length Γ + length ys
+  more ys Δ e =
+      let r = length-reverse ys in
+      opened_length (leb (length ys + length Γ) max_levels) (scope_of ys ++ Γ) Δ (BadScope i) e ∙ length-append (scope_of ys) Γ ∙ omega arith
 
   same : (Δ : List TypeId) → ◌≡◌ {A = Reached (List TypeId)} (Ok Γ) (Ok Δ) → length Δ ≡ length Γ
   same Δ e = ap length (sym (ok_same Γ Δ e))
@@ -51,13 +51,13 @@ module _ (w : World) (Γ : List TypeId) (i : ℕ) where
   inner_length Unit' x n Δ e = same Δ e
   inner_length (Number v) x n Δ e = same Δ e
   inner_length (Name l) x n Δ e = same Δ e
-  inner_length (Let k) x n Δ e = once x Δ e
-  inner_length (Take k) x n Δ e = once x Δ e
+  inner_length (Let k) x n Δ e = more (x ∷ []) Δ e
+  inner_length (Take k) x n Δ e = more (x ∷ []) Δ e
   inner_length Pair x n Δ e = same Δ e
-  inner_length (Split k) x n Δ e = there_length i (pair_parts (slice_get w.types x.index)) (opened_twice i Γ) Δ _ (λ p q. twice p Δ q) e
+  inner_length (Split k) x n Δ e = there_length i (pair_parts (slice_get w.types x.index)) (λ p. opened i Γ (p.0 ∷ p.1 ∷ [])) Δ _ (λ p q. more (p.0 ∷ p.1 ∷ []) Δ q) e
   inner_length (Left y) x n Δ e = same Δ e
   inner_length (Right y) x n Δ e = same Δ e
-  inner_length (Case k) x n Δ e = there_length i (either_parts (slice_get w.types x.index)) (λ p. opened i Γ (side n p)) Δ _ (λ p q. once (side n p) Δ q) e
+  inner_length (Case k) x n Δ e = there_length i (either_parts (slice_get w.types x.index)) (λ p. opened i Γ (side n p ∷ [])) Δ _ (λ p q. more (side n p ∷ []) Δ q) e
   inner_length (Call l a) x n Δ e = same Δ e
   inner_length Add x n Δ e = same Δ e
   inner_length Less x n Δ e = same Δ e

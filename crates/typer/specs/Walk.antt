@@ -44,12 +44,9 @@ abbrev pub Opens : Reached (List TypeId) → List TypeId → Result (Unit {0}) T
 Opens g old (Ok u) new = (g ≡ Ok (scope_of new)) × (take (length old) new ≡ old)
 Opens g old (Err e) new = g ≡ Err e
 
--- a scope with one level more, or two, if there is room
-abbrev pub opened : ℕ → List TypeId → TypeId → Reached (List TypeId)
-opened i Γ y = if_room i 1 Γ (Ok (y ∷ Γ))
-
-abbrev pub opened_twice : ℕ → List TypeId → TypeId × TypeId → Reached (List TypeId)
-opened_twice i Γ p = if_room i 2 Γ (Ok (p.1 ∷ p.0 ∷ Γ))
+-- A scope with more levels, the last of them innermost, if there is room for all.
+abbrev pub opened : ℕ → List TypeId → List TypeId → Reached (List TypeId)
+opened i Γ ys = if_room i (length ys) Γ (Ok (scope_of ys ++ Γ))
 
 -- a case binds the left side in its second kid, the right side in its third
 abbrev pub side : ℕ → TypeId × TypeId → TypeId
@@ -60,13 +57,13 @@ abbrev pub inner_scope : World → List TypeId → ℕ → Node → TypeId → �
 inner_scope w Γ i Unit' x n = Ok Γ
 inner_scope w Γ i (Number v) x n = Ok Γ
 inner_scope w Γ i (Name l) x n = Ok Γ
-inner_scope w Γ i (Let k) x n = opened i Γ x
-inner_scope w Γ i (Take k) x n = opened i Γ x
+inner_scope w Γ i (Let k) x n = opened i Γ (x ∷ [])
+inner_scope w Γ i (Take k) x n = opened i Γ (x ∷ [])
 inner_scope w Γ i Pair x n = Ok Γ
-inner_scope w Γ i (Split k) x n = then_type (there_at i (pair_parts (slice_get w.types x.index))) (opened_twice i Γ)
+inner_scope w Γ i (Split k) x n = then_type (there_at i (pair_parts (slice_get w.types x.index))) (λ p. opened i Γ (p.0 ∷ p.1 ∷ []))
 inner_scope w Γ i (Left y) x n = Ok Γ
 inner_scope w Γ i (Right y) x n = Ok Γ
-inner_scope w Γ i (Case k) x n = then_type (there_at i (either_parts (slice_get w.types x.index))) (λ p. opened i Γ (side n p))
+inner_scope w Γ i (Case k) x n = then_type (there_at i (either_parts (slice_get w.types x.index))) (λ p. opened i Γ (side n p ∷ []))
 inner_scope w Γ i (Call l a) x n = Ok Γ
 inner_scope w Γ i Add x n = Ok Γ
 inner_scope w Γ i Less x n = Ok Γ

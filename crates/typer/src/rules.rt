@@ -1,9 +1,9 @@
 // The typing rules, one node at a time.
-ghost use Rattle.std.specs.Prelude.{◌≡◌, ℕ, ◌++◌, length, Ok, position};
+ghost use Rattle.std.specs.Prelude.{◌≡◌, ℕ, Ok, position};
 ghost use Rattle.plan.specs.Written.{same_type};
 ghost use Rattle.std.specs.List.{slice_get};
-ghost use Rattle.typer.specs.Typing.{number_of, either_parts, there_at, if_room, if_same};
-ghost use Rattle.typer.specs.Walk.{call_type, sigs_of, scope_of, world_in, kid_at, inner_scope, kid_scope, two_numbers, node_type, Opens};
+ghost use Rattle.typer.specs.Typing.{number_of, either_parts, there_at, if_same};
+ghost use Rattle.typer.specs.Walk.{call_type, sigs_of, scope_of, world_in, kid_at, opened, kid_scope, two_numbers, node_type, Opens};
 
 use crate::world::World;
 use arrayvec::ArrayVec;
@@ -37,7 +37,7 @@ fn place_of(types: &[Type], y: Type) -> Option<usize>
 
 // Brings levels into scope, the last one innermost, if there is room for all.
 fn open(at: usize, scope: &mut Scope, levels: &[TypeId]) -> Result<(), TypeFault>
-    ensures { Opens (if_room at (length levels.now) (scope_of scope.old.items) (Ok (scope_of (scope.old.items ++ levels.now)))) scope.old.items result scope.new.items }
+    ensures { Opens (opened at (scope_of scope.old.items) levels.now) scope.old.items result scope.new.items }
 {
     scope
         .try_extend_from_slice(levels)
@@ -94,31 +94,6 @@ impl World<'_> {
         }
     }
 
-    // Brings into scope what the next kid behind `known` others sees, the first of which has the type `first`.
-    fn open_inner(
-        &self,
-        at: usize,
-        node: Node,
-        scope: &mut Scope,
-        first: TypeId,
-        known: usize,
-    ) -> Result<(), TypeFault>
-        ensures { Opens (inner_scope (world_in self.now.plan.now) (scope_of scope.old.items) at node first known) scope.old.items result scope.new.items }
-    {
-        match node {
-            Node::Let(_) | Node::Take(_) => open(at, scope, &[first]),
-            Node::Split(_) => match self.type_at(first) {
-                Some(Type::Pair(a, b)) => open(at, scope, &[a, b]),
-                _ => Err(TypeFault::Type(at)),
-            },
-            Node::Case(_) => {
-                let (left, right) = self.either_parts(at, first)?;
-                open(at, scope, &[if known == 1 { left } else { right }])
-            }
-            _ => Ok(()),
-        }
-    }
-
     // Brings into scope what the next kid sees, once those before it have their types.
     pub(crate) fn open_kid(
         &self,
@@ -129,9 +104,20 @@ impl World<'_> {
     ) -> Result<(), TypeFault>
         ensures { Opens (kid_scope (world_in self.now.plan.now) (scope_of scope.old.items) at node kids.now) scope.old.items result scope.new.items }
     {
-        match kids {
-            [] => Ok(()),
-            [first, ..] => self.open_inner(at, node, scope, *first, kids.len()),
+        let Some(first) = kids.first() else {
+            return Ok(());
+        };
+        match node {
+            Node::Let(_) | Node::Take(_) => open(at, scope, &[*first]),
+            Node::Split(_) => match self.type_at(*first) {
+                Some(Type::Pair(a, b)) => open(at, scope, &[a, b]),
+                _ => Err(TypeFault::Type(at)),
+            },
+            Node::Case(_) => {
+                let (left, right) = self.either_parts(at, *first)?;
+                open(at, scope, &[if kids.len() == 1 { left } else { right }])
+            }
+            _ => Ok(()),
         }
     }
 
