@@ -15,12 +15,12 @@ use Rattle.typer.specs.Accepted.{with_types, then_types, typed, AcceptedExactly,
 use Rattle.typer.proofs.Types.{law}
 
 read_ok : (r : Result Plan ReadFault) (p : Plan) → then_types r ≡ Ok p → (r ≡ Ok p) × (check_plan p ≡ Ok tt)
-read_ok (Err e) p q = absurd (let z : ◌≡◌ {A = ℕ} 0 1 = cc in omega arith)
+read_ok (Err e) p q = grind arith
 read_ok (Ok p') p q = go (check_plan p') refl q
   where
     go : (t : Reached (Unit {0})) → check_plan p' ≡ t → with_types p' t ≡ Ok p → (◌≡◌ {A = Result Plan ReadFault} (Ok p') (Ok p)) × (check_plan p ≡ Ok tt)
     go (Ok u) e q = let same : p' ≡ p = cc in (ap Ok same, subst (λ x. check_plan x ≡ Ok tt) same e)
-    go (Err f) e q = absurd (let z : ◌≡◌ {A = ℕ} 0 1 = cc in omega arith)
+    go (Err f) e q = grind arith
 
 pub accepted_exactly : (bs : List ℕ) (p : Plan) → ReadExactly bs p → AcceptedExactly bs p
 accepted_exactly bs p r = record {

@@ -12,7 +12,7 @@ use Rattle.plan.specs.Trees.{Term, t_unit, t_number, t_name, t_let, t_take, t_pa
 use Rattle.typer.specs.Typing.{found, unit_type, number_type, truth_type, same_id, World, Typed, AllTyped, Reached, then_type, size, there_at, named_at, if_room, if_same, pair_parts, either_parts, same_list, call_result, check, check_all, scope_on, LegTyped, numbers_only, LegsTyped, check_leg, check_legs, world_of, TypingLaw}
 
 no : {A : Type 0} {e : TypeFault} {X : Type 0} (x : X) → ◌≡◌ {A = Reached X} (Err e) (Ok x) → A
-no x q = absurd (let z : ◌≡◌ {A = ℕ} 0 1 = cc in omega arith)
+no x q = grind arith
 
 ok_is : {X : Type 0} (x y : X) → ◌≡◌ {A = Reached X} (Ok x) (Ok y) → x ≡ y
 ok_is x y e = cc
@@ -55,23 +55,23 @@ same_on : {X : Type 0} (i : ℕ) (a b : TypeId) (r : Reached X) → a ≡ b → 
 same_on i a b r e = ap (λ t. cond t r (Err (BadType i))) (same_id_on a b e)
 
 pair_inv : (o : Option Shape) (p : TypeId × TypeId) → pair_parts o ≡ Some p → o ≡ Some (PairType p.0 p.1)
-pair_inv None p e = absurd (let z : ◌≡◌ {A = ℕ} 0 1 = cc in omega arith)
-pair_inv (Some UnitType) p e = absurd (let z : ◌≡◌ {A = ℕ} 0 1 = cc in omega arith)
-pair_inv (Some NumberType) p e = absurd (let z : ◌≡◌ {A = ℕ} 0 1 = cc in omega arith)
-pair_inv (Some (EitherType u v)) p e = absurd (let z : ◌≡◌ {A = ℕ} 0 1 = cc in omega arith)
+pair_inv None p e = grind arith
+pair_inv (Some UnitType) p e = grind arith
+pair_inv (Some NumberType) p e = grind arith
+pair_inv (Some (EitherType u v)) p e = grind arith
 pair_inv (Some (PairType u v)) p e = let q : (u, v) ≡ p = cc in ap (λ r. Some (PairType r.0 r.1)) q
 
 either_inv : (o : Option Shape) (p : TypeId × TypeId) → either_parts o ≡ Some p → o ≡ Some (EitherType p.0 p.1)
-either_inv None p e = absurd (let z : ◌≡◌ {A = ℕ} 0 1 = cc in omega arith)
-either_inv (Some UnitType) p e = absurd (let z : ◌≡◌ {A = ℕ} 0 1 = cc in omega arith)
-either_inv (Some NumberType) p e = absurd (let z : ◌≡◌ {A = ℕ} 0 1 = cc in omega arith)
-either_inv (Some (PairType u v)) p e = absurd (let z : ◌≡◌ {A = ℕ} 0 1 = cc in omega arith)
+either_inv None p e = grind arith
+either_inv (Some UnitType) p e = grind arith
+either_inv (Some NumberType) p e = grind arith
+either_inv (Some (PairType u v)) p e = grind arith
 either_inv (Some (EitherType u v)) p e = let q : (u, v) ≡ p = cc in ap (λ r. Some (EitherType r.0 r.1)) q
 
 same_list_inv : (xs ys : List TypeId) → same_list xs ys ≡ true → xs ≡ ys
 same_list_inv [] [] e = refl
-same_list_inv [] (y ∷ ys) e = absurd (let z : ◌≡◌ {A = ℕ} 0 1 = cc in omega arith)
-same_list_inv (x ∷ xs) [] e = absurd (let z : ◌≡◌ {A = ℕ} 0 1 = cc in omega arith)
+same_list_inv [] (y ∷ ys) e = grind arith
+same_list_inv (x ∷ xs) [] e = grind arith
 same_list_inv (x ∷ xs) (y ∷ ys) e = let p = and_parts (same_id x y) (same_list xs ys) e in ap₂ (λ h t. h ∷ t) (same_id_inv x y p.0) (same_list_inv xs ys p.1)
 
 same_list_on : (xs : List TypeId) → same_list xs xs ≡ true
@@ -107,6 +107,18 @@ module _ (w : World) where
       let s = same_inv i q.0 number_type _ y r.1 in
       (subst (Typed w Γ a) r.0 (ha Γ (suc i) p.0 p.1), subst (Typed w Γ b) s.0 (hb Γ (suc i + size a) q.0 q.1), sym (ok_is z y s.1))
 
+  -- the left side or the right one
+  abbrev sides : ℕ → TypeId → Term → List TypeId → (TypeId × TypeId → TypeId) → Reached TypeId
+  sides i x a Γ side = then_type (check w Γ (suc i) a) (λ u. then_type (there_at i (either_parts (slice_get w.types x.index))) (λ p. if_same i u (side p) (Ok x)))
+
+  side_sound : (side : TypeId × TypeId → TypeId) (x : TypeId) (a : Term) (Γ : List TypeId) (i : ℕ) (y : TypeId) → Sound a → sides i x a Γ side ≡ Ok y
+      → (p : TypeId × TypeId) × Typed w Γ a (side p) × (slice_get w.types x.index ≡ Some (EitherType p.0 p.1)) × (x ≡ y)
+  side_sound side x a Γ i y ha e =
+      let p = then_inv (check w Γ (suc i) a) _ y e in
+      let q = then_inv (there_at i (either_parts (slice_get w.types x.index))) _ y p.2 in
+      let r = same_inv i p.0 (side q.0) _ y q.2 in
+      (q.0, subst (Typed w Γ a) r.0 (ha Γ (suc i) p.0 p.1), either_inv (slice_get w.types x.index) q.0 (there_inv i _ q.0 q.1), ok_is x y r.1)
+
   mutual
     pub sound : (t : Term) → Sound t
     sound t_unit Γ i y e = sym (ok_is unit_type y e)
@@ -119,16 +131,8 @@ module _ (w : World) where
         let q = then_inv (check w Γ (suc i + size a) b) _ y p.2 in
         (p.0, q.0, sound a Γ (suc i) p.0 p.1, sound b Γ (suc i + size a) q.0 q.1, there_inv i _ y q.2)
     sound (t_split k a b) Γ i y e = split_sound k a b (sound a) (sound b) Γ i y e
-    sound (t_left x a) Γ i y e =
-        let p = then_inv (check w Γ (suc i) a) _ y e in
-        let q = then_inv (there_at i (either_parts (slice_get w.types x.index))) _ y p.2 in
-        let r = same_inv i p.0 q.0.0 _ y q.2 in
-        (q.0.0, q.0.1, subst (Typed w Γ a) r.0 (sound a Γ (suc i) p.0 p.1), either_inv (slice_get w.types x.index) q.0 (there_inv i _ q.0 q.1), ok_is x y r.1)
-    sound (t_right x a) Γ i y e =
-        let p = then_inv (check w Γ (suc i) a) _ y e in
-        let q = then_inv (there_at i (either_parts (slice_get w.types x.index))) _ y p.2 in
-        let r = same_inv i p.0 q.0.1 _ y q.2 in
-        (q.0.0, q.0.1, subst (Typed w Γ a) r.0 (sound a Γ (suc i) p.0 p.1), either_inv (slice_get w.types x.index) q.0 (there_inv i _ q.0 q.1), ok_is x y r.1)
+    sound (t_left x a) Γ i y e = let r = side_sound (λ p. p.0) x a Γ i y (sound a) e in (r.0.0, r.0.1, r.1, r.2, r.3)
+    sound (t_right x a) Γ i y e = let r = side_sound (λ p. p.1) x a Γ i y (sound a) e in (r.0.0, r.0.1, r.1, r.2, r.3)
     sound (t_case k a b c) Γ i y e =
         let p = then_inv (check w Γ (suc i) a) _ y e in
         let q = then_inv (there_at i (either_parts (slice_get w.types p.0.index))) _ y p.2 in
@@ -161,24 +165,36 @@ module _ (w : World) where
         let q = then_inv (check_all w Γ (i + size a) us) _ ys p.2 in
         (p.0, q.0, sound a Γ i p.0 p.1, sound_all us Γ (i + size a) q.0 q.1, sym (ok_is (p.0 ∷ q.0) ys q.2))
 
+  abbrev Full : Term → Type 0
+  Full t = (Γ : List TypeId) (i : ℕ) (y : TypeId) → Typed w Γ t y → check w Γ i t ≡ Ok y
+
+  let_full : (k : ℕ) (a b : Term) → Full a → Full b → Full (t_let k a b)
+  let_full k a b ha hb Γ i y e = then_on _ _ e.0 (ha Γ (suc i) e.0 e.1) ∙ room_on i 1 Γ _ e.2 ∙ hb (e.0 ∷ Γ) (suc i + size a) y e.3
+
+  side_full : (side : TypeId × TypeId → TypeId) (x : TypeId) (a : Term) (Γ : List TypeId) (i : ℕ) (y u v : TypeId) → Full a → Typed w Γ a (side (u, v)) → slice_get w.types x.index ≡ Some (EitherType u v) → x ≡ y
+      → sides i x a Γ side ≡ Ok y
+  side_full side x a Γ i y u v ha t there e =
+      then_on _ _ (side (u, v)) (ha Γ (suc i) (side (u, v)) t) ∙ ap (λ o. then_type (there_at i (either_parts o)) (λ p. if_same i (side (u, v)) (side p) (Ok x))) there
+      ∙ same_on i (side (u, v)) (side (u, v)) (Ok x) refl ∙ ap Ok e
+
+  sum_full : (z : TypeId) (a b : Term) (Γ : List TypeId) (i : ℕ) (y : TypeId) → Full a → Full b → Typed w Γ a number_type × Typed w Γ b number_type × (y ≡ z)
+      → then_type (check w Γ (suc i) a) (λ u. then_type (check w Γ (suc i + size a) b) (λ v. if_same i u number_type (if_same i v number_type (Ok z)))) ≡ Ok y
+  sum_full z a b Γ i y ha hb e = then_on _ _ number_type (ha Γ (suc i) number_type e.0) ∙ then_on _ _ number_type (hb Γ (suc i + size a) number_type e.1) ∙ ap Ok (sym e.2)
+
   mutual
-    pub full : (t : Term) (Γ : List TypeId) (i : ℕ) (y : TypeId) → Typed w Γ t y → check w Γ i t ≡ Ok y
+    pub full : (t : Term) → Full t
     full t_unit Γ i y e = ap Ok (sym e)
     full (t_number n) Γ i y e = ap Ok (sym e)
     full (t_name l) Γ i y e = ap (named_at i) e
-    full (t_let k a b) Γ i y e = then_on _ _ e.0 (full a Γ (suc i) e.0 e.1) ∙ room_on i 1 Γ _ e.2 ∙ full b (e.0 ∷ Γ) (suc i + size a) y e.3
-    full (t_take k a b) Γ i y e = then_on _ _ e.0 (full a Γ (suc i) e.0 e.1) ∙ room_on i 1 Γ _ e.2 ∙ full b (e.0 ∷ Γ) (suc i + size a) y e.3
+    full (t_let k a b) Γ i y e = let_full k a b (full a) (full b) Γ i y e
+    full (t_take k a b) Γ i y e = let_full k a b (full a) (full b) Γ i y e
     full (t_pair a b) Γ i y e =
         then_on _ _ e.0 (full a Γ (suc i) e.0 e.2) ∙ then_on _ _ e.1 (full b Γ (suc i + size a) e.1 e.3) ∙ ap (there_at i) e.4
     full (t_split k a b) Γ i y e =
         then_on _ _ e.0 (full a Γ (suc i) e.0 e.3) ∙ ap (λ o. then_type (there_at i (pair_parts o)) (λ p. if_room i 2 Γ (check w (p.1 ∷ p.0 ∷ Γ) (suc i + size a) b))) e.4
         ∙ room_on i 2 Γ _ e.5 ∙ full b (e.2 ∷ e.1 ∷ Γ) (suc i + size a) y e.6
-    full (t_left x a) Γ i y e =
-        then_on _ _ e.0 (full a Γ (suc i) e.0 e.2) ∙ ap (λ o. then_type (there_at i (either_parts o)) (λ p. if_same i e.0 p.0 (Ok x))) e.3
-        ∙ same_on i e.0 e.0 (Ok x) refl ∙ ap Ok e.4
-    full (t_right x a) Γ i y e =
-        then_on _ _ e.1 (full a Γ (suc i) e.1 e.2) ∙ ap (λ o. then_type (there_at i (either_parts o)) (λ p. if_same i e.1 p.1 (Ok x))) e.3
-        ∙ same_on i e.1 e.1 (Ok x) refl ∙ ap Ok e.4
+    full (t_left x a) Γ i y e = side_full (λ p. p.0) x a Γ i y e.0 e.1 (full a) e.2 e.3 e.4
+    full (t_right x a) Γ i y e = side_full (λ p. p.1) x a Γ i y e.0 e.1 (full a) e.2 e.3 e.4
     full (t_case k a b c) Γ i y e =
         then_on _ _ e.0 (full a Γ (suc i) e.0 e.3)
         ∙ ap (λ o. then_type (there_at i (either_parts o)) (λ p. if_room i 1 Γ (then_type (check w (p.0 ∷ Γ) (suc i + size a) b) (λ u. then_type (check w (p.1 ∷ Γ) (suc i + size a + size b) c) (λ v. if_same i u v (Ok u)))))) e.4
@@ -187,8 +203,8 @@ module _ (w : World) where
     full (t_call l us) Γ i y e =
         then_on _ _ e.1 (full_all us Γ (suc i) e.1 e.2) ∙ ap (λ o. then_type (there_at i o) (λ g. call_result i e.1 g)) e.3
         ∙ ap (λ ys. call_result i ys e.0) e.4 ∙ ap (λ b. cond b (Ok e.0.result) (Err (BadType i))) (same_list_on e.0.params) ∙ ap Ok (sym e.5)
-    full (t_add a b) Γ i y e = then_on _ _ number_type (full a Γ (suc i) number_type e.0) ∙ then_on _ _ number_type (full b Γ (suc i + size a) number_type e.1) ∙ ap Ok (sym e.2)
-    full (t_less a b) Γ i y e = then_on _ _ number_type (full a Γ (suc i) number_type e.0) ∙ then_on _ _ number_type (full b Γ (suc i + size a) number_type e.1) ∙ ap Ok (sym e.2)
+    full (t_add a b) Γ i y e = sum_full number_type a b Γ i y (full a) (full b) e
+    full (t_less a b) Γ i y e = sum_full truth_type a b Γ i y (full a) (full b) e
 
     full_all : (us : Terms) (Γ : List TypeId) (i : ℕ) (ys : List TypeId) → AllTyped w Γ us ys → check_all w Γ i us ≡ Ok ys
     full_all t_none Γ i ys e = ap Ok (sym e)

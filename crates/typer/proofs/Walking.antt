@@ -31,11 +31,11 @@ ok_same Γ Δ e = cc
 
 opened_length : (b : Bool) (Θ Δ : List TypeId) (f : TypeFault) → cond {A = Reached (List TypeId)} b (Ok Θ) (Err f) ≡ Ok Δ → length Δ ≡ length Θ
 opened_length true Θ Δ f e = ap length (sym (ok_same Θ Δ e))
-opened_length false Θ Δ f e = absurd (let z : ◌≡◌ {A = ℕ} 0 1 = cc in omega arith)
+opened_length false Θ Δ f e = grind arith
 
 there_length : (i : ℕ) (o : Option (TypeId × TypeId)) (f : TypeId × TypeId → Reached (List TypeId)) (Δ : List TypeId) (n : ℕ)
     → ((p : TypeId × TypeId) → f p ≡ Ok Δ → length Δ ≡ n) → then_type (there_at i o) f ≡ Ok Δ → length Δ ≡ n
-there_length i None f Δ n h e = absurd (let z : ◌≡◌ {A = ℕ} 0 1 = cc in omega arith)
+there_length i None f Δ n h e = grind arith
 there_length i (Some p) f Δ n h e = h p e
 
 module _ (w : World) (Γ : List TypeId) (i : ℕ) where

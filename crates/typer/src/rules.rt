@@ -104,17 +104,17 @@ impl World<'_> {
     ) -> Result<(), TypeFault>
         ensures { Opens (kid_scope (world_in self.now.plan.now) (scope_of scope.old.items) at node kids.now) scope.old.items result scope.new.items }
     {
-        let Some(first) = kids.first() else {
+        let Some(&first) = kids.first() else {
             return Ok(());
         };
         match node {
-            Node::Let(_) | Node::Take(_) => open(at, scope, &[*first]),
-            Node::Split(_) => match self.type_at(*first) {
+            Node::Let(_) | Node::Take(_) => open(at, scope, &[first]),
+            Node::Split(_) => match self.type_at(first) {
                 Some(Type::Pair(a, b)) => open(at, scope, &[a, b]),
                 _ => Err(TypeFault::Type(at)),
             },
             Node::Case(_) => {
-                let (left, right) = self.either_parts(at, *first)?;
+                let (left, right) = self.either_parts(at, first)?;
                 open(at, scope, &[if kids.len() == 1 { left } else { right }])
             }
             _ => Ok(()),

@@ -81,6 +81,7 @@ impl World<'_> {
     }
 }
 
+// Whether all the types are numbers.
 fn all_numbers(types: &[TypeId]) -> bool
     ensures { result ≡ list_all (λ y. same_id y number_type) types.now }
 {
