@@ -4,7 +4,7 @@ use lib.Seq.{get_or-append_seam}
 use Rattle.evaluation.specs.Flight.{at}
 use Rattle.evaluation.specs.Flight as byname
 use Rattle.flight.specs.Nodes.{end_at, bind_kids}
-use Rattle.flight.specs.Tables.{Tables, no_binding, size_at, new_binding, opened}
+use Rattle.flight.specs.Tables.{Tables, the_spot, no_binding, size_at, new_binding, opened}
 use Rattle.flight.specs.Means.{scope_at, unwind, state_of}
 use Rattle.flight.specs.Sound.{Under, Args, Poised, Leads}
 use Rattle.plan.specs.declared.Leg.{Leg}
@@ -120,7 +120,7 @@ module _ (ns : List Row) (gs : List Leg) (t₀ : Tables) (g : Leg) (m q s d : �
           begun = C.begun;
         }
 
-    pub call_done : m ≤ k → Leads ns gs t₀ (call_act ns t₀ g m q s d) t (Eval g.first i (d + 1))
+    pub call_done : m ≤ k → Leads ns gs t₀ (call_act ns t₀ g m q s d) t (Eval (the_spot g.first i (d + 1)))
     call_done ge =
         let up = C.upto in
         let e : 0 ≡ m - k = omega arith in

@@ -1,6 +1,6 @@
 -- What the tables hold, place by place. Assumes nothing.
-use Rattle.std.proofs.Common.{◌≡◌, ℕ, zero, suc, ◌+◌, ◌-◌, ◌<◌, ◌≤◌, min, Bool, true, false, cond, T, eqb, List, [], ◌∷◌, ◌++◌, length, get_or, take, sym, refl, ap, ◌∙◌, subst, ap₂, zero-add, add-one, arith, eqb→eq, length-take}
-use lib.Dec.{eqb_refl}
+use Rattle.std.proofs.Common.{◌≡◌, ℕ, zero, suc, ◌+◌, ◌-◌, ◌<◌, ◌≤◌, min, cond, eqb, List, [], ◌∷◌, ◌++◌, length, get_or, take, sym, refl, ap, ◌∙◌, subst, ap₂, zero-add, add-one, arith, length-take}
+use Rattle.std.proofs.lemmas.Bool.{eq-eqb, ne_eqb}
 use Rattle.evaluation.specs.Flight.{at}
 use Rattle.evaluation.specs.Flight as byname
 use Rattle.flight.specs.Grow.{grow}
@@ -15,20 +15,6 @@ use Rattle.flight.specs.declared.machine.What.TheVariants.{Thunk, Kept, Store}
 use Rattle.flight.specs.declared.machine.Binding.{Binding}
 use Rattle.plan.specs.declared.Row.{Row}
 use Rattle.flight.proofs.Grow.{grow_length, stable, grow_old, grow_new, grow_at, grow_front, grow_ext}
-
-pub eqb_same : (n : ℕ) → eqb n n ≡ true
-eqb_same n = go (eqb n n) (eqb_refl n)
-  where
-    go : (x : Bool) → T x → x ≡ true
-    go true t = refl
-    go false t = absurd t
-
-pub eqb_other : (m n : ℕ) → ¬ (m ≡ n) → eqb m n ≡ false
-eqb_other m n h = go (eqb m n) refl
-  where
-    go : (x : Bool) → eqb m n ≡ x → x ≡ false
-    go true e = absurd (h (eqb→eq m n (subst T (sym e) tt)))
-    go false e = refl
 
 -- values
 
@@ -139,7 +125,7 @@ module _ (E : Runner) (L : byname.Limits) (ps : List Part) (bs : List Binding) w
         let p = o.older in
         ap (λ ρ. at (byname.kept byname.v_unit) ρ l) (scope_here i lt)
         ∙ ap (λ x. cond x (lookup_of E L (value_at ps) S b.binder i b.what) (at (byname.kept byname.v_unit) (scope_at E L ps bs b.parent) l))
-        (ap (eqb l) (scope_size b.parent (omega arith) ∙ sym o.level ∙ e) ∙ eqb_same l)
+        (ap (eqb l) (scope_size b.parent (omega arith) ∙ sym o.level ∙ e) ∙ eq-eqb l l refl)
 
     pub found_further : (i l : ℕ) → i < length bs → ¬ ((get_or bs i no_binding).level ≡ l)
         → at (byname.kept byname.v_unit) (scope_at E L ps bs (suc i)) l
@@ -150,7 +136,7 @@ module _ (E : Runner) (L : byname.Limits) (ps : List Part) (bs : List Binding) w
         let p = o.older in
         ap (λ ρ. at (byname.kept byname.v_unit) ρ l) (scope_here i lt)
         ∙ ap (λ x. cond x (lookup_of E L (value_at ps) S b.binder i b.what) (at (byname.kept byname.v_unit) (scope_at E L ps bs b.parent) l))
-        (eqb_other l _ (λ q. ne (o.level ∙ sym (scope_size b.parent (omega arith)) ∙ sym q)))
+        (ne_eqb l _ (λ q. ne (o.level ∙ sym (scope_size b.parent (omega arith)) ∙ sym q)))
 
 -- One more value changes no scope.
 pub scopes_valued : (E : Runner) (L : byname.Limits) (ps : List Part) (p : Part) (bs : List Binding)

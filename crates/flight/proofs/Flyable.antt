@@ -1,5 +1,5 @@
 -- A read plan with types is laid and spelled as the machine needs it. Assumes nothing.
-use Rattle.std.proofs.Common.{◌≡◌, ℕ, zero, suc, ◌+◌, ◌-◌, ◌*◌, ◌<◌, ◌≤◌, Bool, true, false, cond, eqb, ltb, List, [], ◌∷◌, ◌++◌, reverse, length, get_or, drop, vec_items, sym, refl, ap, ◌∙◌, subst, arith, length-append, ltb-false, ltb-true, le-ltb, lt-ltb, eqb-true}
+use Rattle.std.proofs.Common.{◌≡◌, ℕ, zero, suc, ◌+◌, ◌-◌, ◌*◌, ◌<◌, ◌≤◌, Bool, true, false, cond, ltb, List, [], ◌∷◌, ◌++◌, reverse, length, get_or, drop, vec_items, sym, refl, ap, ◌∙◌, subst, arith, length-append, ltb-false, ltb-true, le-ltb, lt-ltb}
 use mathlib.Core.List.{reverse_aux}
 use Rattle.std.proofs.lemmas.List.{get_or_append_left, get_or-append-add, get_or-drop}
 use Rattle.plan.specs.declared.TypeId.{TypeId}
@@ -20,8 +20,8 @@ use Rattle.typer.specs.Levels.{levels, leg_levels}
 use Rattle.flight.specs.Nodes.{no_leg, kind_at, level_of}
 use Rattle.flight.specs.Sound.{Under, Laid, LaidNode}
 use Rattle.flight.specs.Spelled.{below, below_from, from_leg, Spells, Spelled, Main}
-use Rattle.flight.proofs.Levels.{levels_length}
-use Rattle.flight.proofs.Decode.{eqb_same}
+use Rattle.typer.proofs.Views.{levels_length}
+use Rattle.std.proofs.lemmas.Bool.{eq-eqb, ne_eqb}
 use Rattle.flight.proofs.Placed.{Lower, Along, Placed, walked, good}
 use Rattle.flight.proofs.Owns.{Fit, fits, owns, two_at_most}
 
@@ -32,13 +32,6 @@ scope_length Γ (y ∷ ys) = scope_length (y ∷ Γ) ys ∙ omega arith
 binders_bound : (os : List Node) (k : ℕ) → binders_in k os ≤ k + 2 * length os
 binders_bound [] k = omega arith
 binders_bound (o ∷ os) k = let a = binders_bound os (with_node k o) in let b = two_at_most o in omega arith
-
-eqb_differ : (m n : ℕ) → m < n → eqb m n ≡ false
-eqb_differ m n lt = go (eqb m n) refl
-  where
-    go : (b : Bool) → eqb m n ≡ b → b ≡ false
-    go true e = absurd (let p : m ≡ n = eqb-true m n e in omega arith)
-    go false e = refl
 
 -- every leg is typed
 abbrev AllLegs : World → List plan.Leg → Type 0
@@ -158,7 +151,7 @@ module _ (ns : List Row) (gs : List Leg) (types : ℕ) (w : World) (sp : table.S
           leg = subst (λ (x : Leg). Under ns lv x.first n) (sym th)
               ((let e = here in let o = A.order.1 in omega arith), ap lv here ∙ leg_walked.0);
           fits = subst (λ (x : Leg). x.binder.index + n < 65536) (sym th) (omega arith);
-          from = ap (λ b. cond b ls' (from_leg ls (length ls))) (eqb_same (length ls))
+          from = ap (λ b. cond b ls' (from_leg ls (length ls))) (eq-eqb (length ls) (length ls) refl)
               ∙ subst (λ (x : Leg). ls' ≡ leg_in ns x ∷ below ns gs x.first) (sym th) (ap (λ (x : List plan.Leg). leg_in ns g ∷ x) (sym first_below));
         }
 
@@ -171,7 +164,7 @@ module _ (ns : List Row) (gs : List Leg) (types : ℕ) (w : World) (sp : table.S
             let c = A.count in
             let old = A.lower l x in
             let q : get_or (s.arities ++ (n ∷ [])) l 0 ≡ get_or s.arities l 0 = get_or_append_left s.arities (n ∷ []) 0 l x in
-            let skip : from_leg ls' l ≡ from_leg ls l = ap (λ b. cond b ls' (from_leg ls l)) (eqb_differ l (length ls) (omega arith)) in
+            let skip : from_leg ls' l ≡ from_leg ls l = ap (λ b. cond b ls' (from_leg ls l)) (ne_eqb l (length ls) (λ (p : l ≡ length ls). omega arith)) in
             subst (λ (m : ℕ). Lower ns gs lv ls' l m) (sym q) (record { there = old.there; leg = old.leg; fits = old.fits; from = skip ∙ old.from })
         go false e =
             let x = ltb-false l (length s.arities) e in
@@ -238,7 +231,7 @@ module _ (ns : List Row) (gs : List Leg) (types : ℕ) (w : World) (sp : table.S
   -- The last leg, main.
   record Last (g : Leg) : Type 0 where
     pub node : Under ns lv g.first (length (params_of g))
-    pub few : g.count ≤ 8
+    pub few : length (params_of g) ≤ 8
     pub binder : g.binder.index < 60000
     pub back : reverse (legs_in ns gs) ≡ leg_in ns g ∷ below ns gs g.first
 

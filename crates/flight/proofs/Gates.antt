@@ -1,46 +1,22 @@
 -- The limits, where a test on them is known, and the stack under changes. Assumes nothing.
-use Rattle.std.proofs.Common.{◌≡◌, ℕ, suc, ◌+◌, ◌<◌, ◌≤◌, Bool, true, false, cond, T, ltb, leb, List, [], ◌∷◌, ◌++◌, map, reverse, length, get_or, sym, refl, ap, ◌∙◌, subst, ap₂, add-one, arith, le→leb, leb→le, length-append, le-ltb, lt-ltb}
+use Rattle.std.proofs.Common.{◌≡◌, ℕ, suc, ◌<◌, ◌≤◌, Option, Some, None, Bool, true, false, cond, ltb, leb, List, [], ◌∷◌, ◌++◌, map, reverse, length, get_or, sym, refl, ap, ◌∙◌, subst, ap₂, add-one, arith, length-append, le-ltb, lt-ltb}
+use Rattle.std.proofs.lemmas.Bool.{le-leb, lt-leb}
 use mathlib.Core.List.{map-append, reverse-append}
-use mathlib.Core.Option.{Option, some, none}
+use mathlib.Core.Option.{some, none}
 use lib.ListN.{length-map}
 use Rattle.evaluation.specs.Flight as byname
 use Rattle.flight.specs.Nodes.{Runner, kind_at, both}
 use Rattle.flight.specs.Tables.{Tables, no_binding, no_frame, new_binding, opened, noted, ticked}
 use Rattle.flight.specs.Means.{value_at, scopes, scope_at, resumed, frame_means, unwind, entry_of, state_of}
-use Rattle.flight.specs.Sound.{WhatOk, PhaseOk, Sound}
+use Rattle.flight.specs.Sound.{WhatOk, FirstOk, Sound}
 use Rattle.flight.specs.declared.machine.Part.{Part}
 use Rattle.flight.specs.declared.machine.What.{What}
 use Rattle.flight.specs.declared.machine.What.TheVariants.{Kept}
 use Rattle.flight.specs.declared.machine.Binding.{Binding}
-use Rattle.flight.specs.declared.machine.Phase.{Phase}
-use Rattle.flight.specs.declared.machine.Phase.TheVariants.{First, Second}
 use Rattle.flight.specs.declared.machine.Frame.{Frame}
 use Rattle.flight.specs.Tables.{Made, Lookup}
 use Rattle.plan.specs.declared.Row.{Row}
 use Rattle.flight.proofs.Decode.{value_old, scope_old, scopes_valued}
-
-pub leb_no : (m n : ℕ) → n < m → leb m n ≡ false
-leb_no m n h = go (leb m n) refl
-  where
-    go : (x : Bool) → leb m n ≡ x → x ≡ false
-    go true e = absurd (let q : m ≤ n = leb→le m n (subst T (sym e) tt) in omega arith)
-    go false e = refl
-
-pub leb_yes : (m n : ℕ) → m ≤ n → leb m n ≡ true
-leb_yes m n h = go (leb m n) (le→leb m n h)
-  where
-    go : (x : Bool) → T x → x ≡ true
-    go true t = refl
-    go false t = absurd t
-
-ltb_no : (m n : ℕ) → n < m + 1 → ltb m n ≡ false
-ltb_no m n h = le-ltb m n (omega arith)
-
-ltb_yes : (m n : ℕ) → m + 1 ≤ n → ltb m n ≡ true
-ltb_yes m n h = lt-ltb m n (omega arith)
-
-stop_at : (a b c : Bool) → Option byname.Ending
-stop_at a b c = cond a (some byname.in_air) (cond b (some byname.long) (cond c (some byname.deep) none))
 
 module _ (n : ℕ) (f : byname.Comp) (d : ℕ) (s : byname.State) where
   stops : (a b c : Bool) → leb n s.begun ≡ a → leb 2048 s.begun ≡ b → ltb 128 d ≡ c
@@ -50,22 +26,22 @@ module _ (n : ℕ) (f : byname.Comp) (d : ℕ) (s : byname.State) where
       λ i. byname.gate (cond (p i) (some byname.in_air) (cond (q i) (some byname.long) (cond (r i) (some byname.deep) none))) s (λ s. f d (byname.tick s))
 
   pub begin_room : s.begun < n → s.begun < 2048 → d < 129 → byname.begin (byname.house n) f d s ≡ f d (byname.tick s)
-  begin_room a b c = stops false false false (leb_no n _ a) (leb_no 2048 _ b) (ltb_no 128 d c)
+  begin_room a b c = stops false false false (lt-leb n _ a) (lt-leb 2048 _ b) (le-ltb 128 d (omega arith))
 
   pub begin_long : s.begun < n → 2048 ≤ s.begun → byname.begin (byname.house n) f d s ≡ byname.ended byname.long s
-  begin_long a b = stops false true (ltb 128 d) (leb_no n _ a) (leb_yes 2048 _ b) refl
+  begin_long a b = stops false true (ltb 128 d) (lt-leb n _ a) (le-leb 2048 _ b) refl
 
   pub begin_deep : s.begun < n → s.begun < 2048 → 129 ≤ d → byname.begin (byname.house n) f d s ≡ byname.ended byname.deep s
-  begin_deep a b c = stops false false true (leb_no n _ a) (leb_no 2048 _ b) (ltb_yes 128 d c)
+  begin_deep a b c = stops false false true (lt-leb n _ a) (lt-leb 2048 _ b) (lt-ltb 128 d (omega arith))
 
   pub begin_air : n ≤ s.begun → byname.begin (byname.house n) f d s ≡ byname.ended byname.in_air s
-  begin_air a = stops true (leb 2048 s.begun) (ltb 128 d) (leb_yes n _ a) refl refl
+  begin_air a = stops true (leb 2048 s.begun) (ltb 128 d) (le-leb n _ a) refl refl
 
 pub room_yes : (n len : ℕ) → len < 4096 → (byname.house n).room len ≡ none
-room_yes n len lt = ap (λ b. cond b (some byname.full) none) (leb_no 4096 len lt)
+room_yes n len lt = ap (λ b. cond b (some byname.full) none) (lt-leb 4096 len lt)
 
 pub room_no : (n len : ℕ) → len ≡ 4096 → (byname.house n).room len ≡ some byname.full
-room_no n len e = ap (λ b. cond b (some byname.full) none) (leb_yes 4096 len (omega arith))
+room_no n len e = ap (λ b. cond b (some byname.full) none) (le-leb 4096 len (omega arith))
 
 pub make_room : (n k : ℕ) (s : byname.State) (f : ℕ → byname.State → byname.Out) → length s.log < 4096
     → byname.make (byname.house n) k s f ≡ f s.next (byname.bump k s)
@@ -126,18 +102,18 @@ module _ (E : Runner) (L : byname.Limits) (ns : List Row) where
       ∙ sym (unwind_snoc ps bs (reverse fs) (f ∷ []) o)
       ∙ ap (λ l. unwind E L ns ps bs l o) (sym (reverse-append (f ∷ []) fs))
 
-  phase_same : (val wal : ℕ → byname.Value) (vs : ℕ) (f : Frame) (ρ : byname.Scope) (p : Phase) → PhaseOk vs p → ((i : ℕ) → i < vs → wal i ≡ val i)
+  first_same : (val wal : ℕ → byname.Value) (vs : ℕ) (f : Frame) (ρ : byname.Scope) (p : Option ℕ) → FirstOk vs p → ((i : ℕ) → i < vs → wal i ≡ val i)
       → resumed E L ns wal f ρ p ≡ resumed E L ns val f ρ p
-  phase_same val wal vs f ρ First ok h = refl
-  phase_same val wal vs f ρ (Second u) ok h = ap (λ x. λ v s. byname.value (both (kind_at ns f.node) x v) s) (h u ok)
+  first_same val wal vs f ρ None ok h = refl
+  first_same val wal vs f ρ (Some u) ok h = ap (λ x. λ v s. byname.value (both (kind_at ns f.spot.node) x v) s) (h u ok)
 
   -- one more binding
   pub unwind_opened : (lv : ℕ → ℕ) (t : Tables) (b : Binding) (o : byname.Out) → Sound ns lv t
       → unwind E L ns t.values (t.bindings ++ (b ∷ [])) (reverse t.frames) o ≡ unwind E L ns t.values t.bindings (reverse t.frames) o
   unwind_opened lv t b o s =
       unwind_same t.values t.bindings t.values (t.bindings ++ (b ∷ [])) t.frames o
-      (λ i lt. ap (λ ρ. resumed E L ns (value_at t.values) (get_or t.frames i no_frame) ρ (get_or t.frames i no_frame).phase)
-      (scope_old E L t.values t.bindings b (get_or t.frames i no_frame).scope (s.frames i lt).scope))
+      (λ i lt. ap (λ ρ. resumed E L ns (value_at t.values) (get_or t.frames i no_frame) ρ (get_or t.frames i no_frame).first)
+      (scope_old E L t.values t.bindings b (get_or t.frames i no_frame).spot.scope (s.frames i lt).scope))
 
   kept_low : (lv : ℕ → ℕ) (t : Tables) → Sound ns lv t → (i : ℕ) → i < length t.bindings → (v : ℕ) → (get_or t.bindings i no_binding).what ≡ Kept v
       → v < length t.values
@@ -153,6 +129,6 @@ module _ (E : Runner) (L : byname.Limits) (ns : List Row) where
   unwind_valued lv t p o s =
       unwind_same t.values t.bindings (t.values ++ (p ∷ [])) t.bindings t.frames o
       (λ i lt. (let f = get_or t.frames i no_frame in
-      ap (λ es. resumed E L ns (value_at (t.values ++ (p ∷ []))) f (get_or es f.scope []) f.phase) (scopes_same lv t p s)
-      ∙ phase_same (value_at t.values) (value_at (t.values ++ (p ∷ []))) (length t.values) f (scope_at E L t.values t.bindings f.scope) f.phase (s.frames i lt).phase
+      ap (λ es. resumed E L ns (value_at (t.values ++ (p ∷ []))) f (get_or es f.spot.scope []) f.first) (scopes_same lv t p s)
+      ∙ first_same (value_at t.values) (value_at (t.values ++ (p ∷ []))) (length t.values) f (scope_at E L t.values t.bindings f.spot.scope) f.first (s.frames i lt).first
       (λ j l. value_old t.values p j l)))

@@ -1,10 +1,10 @@
 -- A value is given to a frame. Assumes nothing.
-use Rattle.std.proofs.Common.{◌≡◌, ℕ, suc, ◌+◌, ◌<◌, ◌≤◌, min, cond, List, [], ◌∷◌, ◌++◌, reverse, length, get_or, sym, refl, ap, ◌∙◌, subst, ap₂, add-one, arith, length-append, le-ltb, lt-ltb}
+use Rattle.std.proofs.Common.{◌≡◌, ℕ, suc, ◌+◌, ◌<◌, ◌≤◌, ◌⊎◌, min, cond, Option, Some, List, [], ◌∷◌, ◌++◌, reverse, length, get_or, sym, refl, ap, ◌∙◌, subst, ap₂, ⊎_elim, add-one, arith, length-append, le-ltb, lt-ltb}
 use lib.Seq.{get_or-append_seam}
 use Rattle.evaluation.specs.Flight.{at}
 use Rattle.evaluation.specs.Flight as byname
 use Rattle.flight.specs.Nodes.{Runner, kind_at, kid2, kid3, after, second, both}
-use Rattle.flight.specs.Tables.{Tables, no_binding, size_at, new_binding, opened, valued}
+use Rattle.flight.specs.Tables.{Tables, the_spot, no_binding, size_at, new_binding, opened, valued}
 use Rattle.flight.specs.Means.{value_at, part_of, scope_at, resumed, unwind, state_of}
 use Rattle.flight.specs.Grow.{grow}
 use Rattle.flight.specs.Sound.{Under, PartOk, Sound, Poised, Leads, bind_act, frame_act, Binds}
@@ -18,8 +18,6 @@ use Rattle.flight.specs.declared.machine.Part.{Part}
 use Rattle.flight.specs.declared.machine.Part.TheVariants.{Nothing, Num, Both, InLeft, InRight}
 use Rattle.flight.specs.declared.machine.What.TheVariants.{Kept}
 use Rattle.flight.specs.declared.machine.Binding.{Binding}
-use Rattle.flight.specs.declared.machine.Phase.{Phase}
-use Rattle.flight.specs.declared.machine.Phase.TheVariants.{Second}
 use Rattle.flight.specs.declared.machine.Frame.{Frame}
 use Rattle.flight.specs.declared.machine.Ending.TheVariants.{Full}
 use Rattle.flight.specs.declared.machine.Control.{Control}
@@ -190,7 +188,7 @@ module _ (ns : List Row) (gs : List Leg) (t : Tables) (q s d : ℕ) (P : Poised 
         }
 
     pub split_both : length t.log < 4096 → length t₁.log < 4096
-        → Leads ns gs t (split_act t k a b x s d) (opened (k + 1) (Kept b) (length B + 1) t₁) (Eval x (length t₁.bindings + 1) (d + 1))
+        → Leads ns gs t (split_act t k a b x s d) (opened (k + 1) (Kept b) (length B + 1) t₁) (Eval (the_spot x (length t₁.bindings + 1) (d + 1)))
     split_both lt lt₁ =
         let nb = new_binding B k (Kept a) s in
         let B₁ = t₁.bindings in
@@ -227,10 +225,10 @@ module _ (ns : List Row) (gs : List Leg) (t : Tables) (q s d : ℕ) (P : Poised 
 
   -- a branch
   module _ (k v : ℕ) (lt : v < length V) (e : kind_at ns q ≡ Case (the_binder k)) where
-    pub binds_left : (u : ℕ) → u < length V → Binds ns gs t (Kept u) (kid2 ns q) q s d
+    binds_left : (u : ℕ) → u < length V → Binds ns gs t (Kept u) (kid2 ns q) q s d
     binds_left u h = let l = laid_as ns gs t q s d P (Case (the_binder k)) e in record { poised = P; what = h; body = (l.1.0, l.1.1 ∙ ap suc P.node.1) }
 
-    pub binds_right : (u : ℕ) → u < length V → Binds ns gs t (Kept u) (kid3 ns q) q s d
+    binds_right : (u : ℕ) → u < length V → Binds ns gs t (Kept u) (kid3 ns q) q s d
     binds_right u h = let l = laid_as ns gs t q s d P (Case (the_binder k)) e in record { poised = P; what = h; body = (l.2.0, l.2.1 ∙ ap suc P.node.1) }
 
     abbrev on_left : Runner → byname.Limits → byname.State → byname.Value → byname.Out
@@ -240,24 +238,26 @@ module _ (ns : List Row) (gs : List Leg) (t : Tables) (q s d : ℕ) (P : Poised 
     on_right E L st v = byname.make L (k + 1) st (λ b st. byname.begin L (E L (kid3 ns q) (byname.bound L (k + 1) b (byname.kept v) ∷ scope_at E L V B s)) (d + 1) st)
 
     pub case_left : (p : Part) (u : ℕ) (t' : Tables) (c' : Control) → p ≡ get_or V v Nothing → p ≡ InLeft u
-        → Leads ns gs t (bind_act t k (Kept u) (kid2 ns q) s d) t' c' → Leads ns gs t (case_act ns t k v q s d) t' c'
+        → (Binds ns gs t (Kept u) (kid2 ns q) q s d → Leads ns gs t (bind_act t k (Kept u) (kid2 ns q) s d) t' c') → Leads ns gs t (case_act ns t k v q s d) t' c'
     case_left p u t' c' x i h =
+        let low : u < v = subst (PartOk v) i (part_there t ns P.lv P.sound v p lt x) in
         leads_as ns gs t (bind_act t k (Kept u) (kid2 ns q) s d) (case_act ns t k v q s d) t' c'
-        (λ E L st. ap (λ z. byname.either_of z (on_left E L st) (on_right E L st)) (sym (value_is t ns P.lv P.sound v p lt x ∙ ap (part_of (grow part_of [] V)) i))) h
+        (λ E L st. ap (λ z. byname.either_of z (on_left E L st) (on_right E L st)) (sym (value_is t ns P.lv P.sound v p lt x ∙ ap (part_of (grow part_of [] V)) i))) (h (binds_left u (omega arith)))
 
     pub case_right : (p : Part) (u : ℕ) (t' : Tables) (c' : Control) → p ≡ get_or V v Nothing → p ≡ InRight u
-        → Leads ns gs t (bind_act t (k + 1) (Kept u) (kid3 ns q) s d) t' c' → Leads ns gs t (case_act ns t k v q s d) t' c'
+        → (Binds ns gs t (Kept u) (kid3 ns q) q s d → Leads ns gs t (bind_act t (k + 1) (Kept u) (kid3 ns q) s d) t' c') → Leads ns gs t (case_act ns t k v q s d) t' c'
     case_right p u t' c' x i h =
+        let low : u < v = subst (PartOk v) i (part_there t ns P.lv P.sound v p lt x) in
         leads_as ns gs t (bind_act t (k + 1) (Kept u) (kid3 ns q) s d) (case_act ns t k v q s d) t' c'
-        (λ E L st. ap (λ z. byname.either_of z (on_left E L st) (on_right E L st)) (sym (value_is t ns P.lv P.sound v p lt x ∙ ap (part_of (grow part_of [] V)) i))) h
+        (λ E L st. ap (λ z. byname.either_of z (on_left E L st) (on_right E L st)) (sym (value_is t ns P.lv P.sound v p lt x ∙ ap (part_of (grow part_of [] V)) i))) (h (binds_right u (omega arith)))
 
     pub case_rest : (p : Part) (t' : Tables) (c' : Control) → p ≡ get_or V v Nothing → ((x : ℕ) → p ≡ InLeft x → ⊥) → ((x : ℕ) → p ≡ InRight x → ⊥)
-        → Leads ns gs t (bind_act t k (Kept 0) (kid2 ns q) s d) t' c' → Leads ns gs t (case_act ns t k v q s d) t' c'
+        → (Binds ns gs t (Kept 0) (kid2 ns q) q s d → Leads ns gs t (bind_act t k (Kept 0) (kid2 ns q) s d) t' c') → Leads ns gs t (case_act ns t k v q s d) t' c'
     case_rest p t' c' x a b h =
         leads_as ns gs t (bind_act t k (Kept 0) (kid2 ns q) s d) (case_act ns t k v q s d) t' c'
         (λ E L st. ap (on_left E L st) (unit_is t ns P.lv P.sound)
         ∙ either_rest (grow part_of [] V) p (on_left E L st) (on_right E L st) a b
-        ∙ ap (λ z. byname.either_of z (on_left E L st) (on_right E L st)) (sym (value_is t ns P.lv P.sound v p lt x))) h
+        ∙ ap (λ z. byname.either_of z (on_left E L st) (on_right E L st)) (sym (value_is t ns P.lv P.sound v p lt x))) (h (binds_left 0 (omega arith)))
 
   -- after the first kid
   pub after_as : (k : Node) (v : ℕ) → kind_at ns q ≡ k → (t' : Tables) (c' : Control)
@@ -285,16 +285,31 @@ module _ (ns : List Row) (gs : List Leg) (t : Tables) (q s d : ℕ) (P : Poised 
   abbrev Two : Node → Type 0
   Two k = (E : Runner) (L : byname.Limits) (ρ : byname.Scope) (v : byname.Value) (st : byname.State) → second E L k ns q ρ d v st ≡ after E L ns k q ρ d v st
 
-  pub second_waits : (v : ℕ) → v < length V → Under ns P.lv (kid2 ns q) (P.lv q) → Waits ns gs t q s d (Second v) (kid2 ns q)
-  second_waits v h u = record { poised = P; phase = h; kid = (u.0, u.1 ∙ P.node.1) }
+  second_waits : (v : ℕ) → v < length V → Under ns P.lv (kid2 ns q) (P.lv q) → Waits ns gs t q s d (Some v) (kid2 ns q)
+  second_waits v h u = record { poised = P; first = h; kid = (u.0, u.1 ∙ P.node.1) }
 
-  pub second_as : (k : Node) (v : ℕ) → kind_at ns q ≡ k → Two k → (t' : Tables) (c' : Control)
-      → Leads ns gs t (wait_act ns t q s d (Second v) (kid2 ns q)) t' c' → Leads ns gs t (after_act ns t q s d v) t' c'
+  second_as : (k : Node) (v : ℕ) → kind_at ns q ≡ k → Two k → (t' : Tables) (c' : Control)
+      → Leads ns gs t (wait_act ns t q s d (Some v) (kid2 ns q)) t' c' → Leads ns gs t (after_act ns t q s d v) t' c'
   second_as k v e two t' c' h =
       after_as k v e t' c'
-      (leads_as ns gs t (wait_act ns t q s d (Second v) (kid2 ns q)) (λ E L st. after E L ns k q (scope_at E L V B s) d (value_at V v) st) t' c'
+      (leads_as ns gs t (wait_act ns t q s d (Some v) (kid2 ns q)) (λ E L st. after E L ns k q (scope_at E L V B s) d (value_at V v) st) t' c'
       (λ E L st. ap (λ (x : Node). byname.and_then (byname.begin L (E L (kid2 ns q) (scope_at E L V B s)) (d + 1) st) (λ w st. byname.value (both x (value_at V v) w) st)) e
       ∙ two E L (scope_at E L V B s) (value_at V v) st) h)
+
+  -- the kinds with two kids and no binder
+  abbrev pub Joined : Node → Type 0
+  Joined k = (k ≡ Pair) ⊎ ((k ≡ Add) ⊎ (k ≡ Less))
+
+  pub joined_waits : (v : ℕ) → v < length V → Joined (kind_at ns q) → Waits ns gs t q s d (Some v) (kid2 ns q)
+  joined_waits v h e =
+      let l = laid_as ns gs t q s d P in
+      second_waits v h (⊎_elim (λ p. (l Pair p).1) (⊎_elim (λ p. (l Add p).1) (λ p. (l Less p).1)) e)
+
+  pub joined_as : (v : ℕ) → Joined (kind_at ns q) → (t' : Tables) (c' : Control)
+      → Leads ns gs t (wait_act ns t q s d (Some v) (kid2 ns q)) t' c' → Leads ns gs t (after_act ns t q s d v) t' c'
+  joined_as v e t' c' h =
+      ⊎_elim (λ p. second_as Pair v p (λ E L ρ v st. refl) t' c' h)
+      (⊎_elim (λ p. second_as Add v p (λ E L ρ v st. refl) t' c' h) (λ p. second_as Less v p (λ E L ρ v st. refl) t' c' h)) e
 
   pub left_leads : (z : TypeId) (v : ℕ) → kind_at ns q ≡ Left z → v < length V → Leads ns gs t (after_act ns t q s d v) (valued (InLeft v) t) (Return (length V))
   left_leads z v e h = after_as (Left z) v e _ _ (value_leads ns gs t q s d P _ (InLeft v) h (λ E L st. refl))
@@ -328,9 +343,9 @@ module _ (ns : List Row) (gs : List Leg) (t : Tables) (q s d : ℕ) (P : Poised 
   pub join_as : (k k' : Node) (u v : ℕ) → k ≡ k' → (t' : Tables) (c' : Control) → Leads ns gs t (join_act t k' u v) t' c' → Leads ns gs t (join_act t k u v) t' c'
   join_as k k' u v e t' c' h = subst (λ (x : Node). Leads ns gs t (join_act t x u v) t' c') (sym e) h
 
-pub frame_as : (ns : List Row) (gs : List Leg) (t : Tables) (f : Frame) (v : ℕ) (p : Phase) → f.phase ≡ p → (t' : Tables) (c' : Control)
-    → Leads ns gs t (λ E L st. resumed E L ns (value_at t.values) f (scope_at E L t.values t.bindings f.scope) p (value_at t.values v) st) t' c'
+pub frame_as : (ns : List Row) (gs : List Leg) (t : Tables) (f : Frame) (v : ℕ) (p : Option ℕ) → f.first ≡ p → (t' : Tables) (c' : Control)
+    → Leads ns gs t (λ E L st. resumed E L ns (value_at t.values) f (scope_at E L t.values t.bindings f.spot.scope) p (value_at t.values v) st) t' c'
     → Leads ns gs t (frame_act ns t f v) t' c'
 frame_as ns gs t f v p e t' c' h =
-    leads_as ns gs t (λ E L st. resumed E L ns (value_at t.values) f (scope_at E L t.values t.bindings f.scope) p (value_at t.values v) st) (frame_act ns t f v) t' c'
-    (λ E L st. ap (λ (x : Phase). resumed E L ns (value_at t.values) f (scope_at E L t.values t.bindings f.scope) x (value_at t.values v) st) (sym e)) h
+    leads_as ns gs t (λ E L st. resumed E L ns (value_at t.values) f (scope_at E L t.values t.bindings f.spot.scope) p (value_at t.values v) st) (frame_act ns t f v) t' c'
+    (λ E L st. ap (λ (x : Option ℕ). resumed E L ns (value_at t.values) f (scope_at E L t.values t.bindings f.spot.scope) x (value_at t.values v) st) (sym e)) h

@@ -18,7 +18,7 @@ use Rattle.flight.proofs.Spelled.{runs}
 use Rattle.flight.proofs.Flyable.{plan_spelled, plan_back}
 
 pub told_same : (y : ℕ → List ℕ) (t : Tables) (c : Control) → told t c ≡ outcome_of (shown y t c)
-told_same y t (Eval q s d) = refl
+told_same y t (Eval a) = refl
 told_same y t (Return v) = refl
 told_same y t (Draw k i) = refl
 told_same y t (Over Long) = refl

@@ -1,16 +1,14 @@
 -- Each change of the tables keeps them sound. Assumes nothing.
-use Rattle.std.proofs.Common.{◌≡◌, ℕ, zero, suc, ◌+◌, ◌<◌, ◌≤◌, ◌⊎◌, List, [], ◌∷◌, ◌++◌, length, get_or, sym, refl, ap, ◌∙◌, subst, inl, inr, eq-or-lt_of_le, arith, length-append}
+use Rattle.std.proofs.Common.{◌≡◌, ℕ, zero, suc, ◌+◌, ◌<◌, ◌≤◌, ◌⊎◌, Option, Some, None, List, [], ◌∷◌, ◌++◌, length, get_or, sym, refl, ap, ◌∙◌, subst, inl, inr, eq-or-lt_of_le, arith, length-append}
 use lib.ListN.{get_or-append}
 use lib.Seq.{get_or-append_seam}
 use Rattle.flight.specs.Tables.{Tables, no_binding, no_frame, size_at, new_binding, opened, noted, valued, pushed, ticked}
-use Rattle.flight.specs.Sound.{WhatOk, BindingOk, PartOk, PhaseOk, FrameOk, Sound, IsNothing, IsLeft, IsRight}
+use Rattle.flight.specs.Sound.{WhatOk, BindingOk, PartOk, FirstOk, FrameOk, Sound, IsNothing, IsLeft, IsRight}
 use Rattle.flight.specs.declared.machine.Part.{Part}
 use Rattle.flight.specs.declared.machine.Part.TheVariants.{Nothing, Num, Both, InLeft, InRight}
 use Rattle.flight.specs.declared.machine.What.{What}
 use Rattle.flight.specs.declared.machine.What.TheVariants.{Thunk, Kept, Store}
 use Rattle.flight.specs.declared.machine.Binding.{Binding}
-use Rattle.flight.specs.declared.machine.Phase.{Phase}
-use Rattle.flight.specs.declared.machine.Phase.TheVariants.{First, Second}
 use Rattle.flight.specs.declared.machine.Frame.{Frame}
 use Rattle.flight.specs.declared.machine.Entry.{Entry}
 use Rattle.plan.specs.declared.Row.{Row}
@@ -43,9 +41,9 @@ module _ (ns : List Row) (lv : ℕ → ℕ) where
   what_wide bs vs ws i (Kept u) v h = omega arith
   what_wide bs vs ws i Store v h = h
 
-  phase_wide : (vs ws : ℕ) (p : Phase) → vs ≤ ws → PhaseOk vs p → PhaseOk ws p
-  phase_wide vs ws First le h = tt
-  phase_wide vs ws (Second u) le h = omega arith
+  first_wide : (vs ws : ℕ) (p : Option ℕ) → vs ≤ ws → FirstOk vs p → FirstOk ws p
+  first_wide vs ws None le h = tt
+  first_wide vs ws (Some u) le h = omega arith
 
   binding_more : (bs : List Binding) (b : Binding) (vs i : ℕ) (x : Binding) → i ≤ length bs → BindingOk ns lv bs vs i x
       → BindingOk ns lv (bs ++ (b ∷ [])) vs i x
@@ -62,11 +60,11 @@ module _ (ns : List Row) (lv : ℕ → ℕ) where
       let e : length (bs ++ (b ∷ [])) ≡ length bs + 1 = length-append bs (b ∷ []) in
       let s = o.scope in
       record {
-        node = (o.node.0, o.node.1 ∙ sym (size_more bs b f.scope o.scope));
+        node = (o.node.0, o.node.1 ∙ sym (size_more bs b f.spot.scope o.scope));
         scope = omega arith;
         deep = o.deep;
         least = o.least;
-        phase = o.phase;
+        first = o.first;
       }
 
   -- a scope has no more names than there are bindings up to it
@@ -143,7 +141,7 @@ module _ (ns : List Row) (lv : ℕ → ℕ) where
           scope = o.scope;
           deep = o.deep;
           least = o.least;
-          phase = phase_wide (length vs) (length (vs ++ (p ∷ []))) (get_or t.frames i no_frame).phase (omega arith) o.phase;
+          first = first_wide (length vs) (length (vs ++ (p ∷ []))) (get_or t.frames i no_frame).first (omega arith) o.first;
         });
         made = s.made;
         log = s.log;

@@ -1,19 +1,18 @@
 -- Where each kind of node leads. Assumes nothing.
-use Rattle.std.proofs.Common.{◌≡◌, ℕ, suc, ◌+◌, ◌<◌, ◌≤◌, List, [], ◌∷◌, ◌++◌, reverse, length, get_or, sym, refl, ap, ◌∙◌, subst, ap₂, add-one, arith, length-append}
+use Rattle.std.proofs.Common.{◌≡◌, ℕ, suc, ◌+◌, ◌<◌, ◌≤◌, Option, List, [], ◌∷◌, ◌++◌, reverse, length, get_or, sym, refl, ap, ◌∙◌, subst, ap₂, add-one, arith, length-append}
 use lib.Seq.{get_or-append_seam}
 use Rattle.evaluation.specs.Flight.{at}
 use Rattle.evaluation.specs.Flight as byname
 use Rattle.flight.specs.Nodes.{Runner}
-use Rattle.flight.specs.Tables.{Tables, no_binding, size_at, new_binding, opened, noted, valued, pushed}
+use Rattle.flight.specs.Tables.{Tables, the_spot, no_binding, size_at, new_binding, opened, noted, valued, pushed}
 use Rattle.flight.specs.Means.{value_at, part_of, lookup_of, scopes, scope_at, resumed, unwind, state_of}
 use Rattle.flight.specs.Grow.{grow}
-use Rattle.flight.specs.Sound.{Under, WhatOk, PartOk, PhaseOk, Poised, Act, Leads, bind_act, Finds, name_act}
+use Rattle.flight.specs.Sound.{Under, WhatOk, PartOk, FirstOk, Poised, Act, Leads, bind_act, Finds, name_act}
 use Rattle.plan.specs.declared.Leg.{Leg}
 use Rattle.flight.specs.declared.machine.Part.{Part}
 use Rattle.flight.specs.declared.machine.What.{What}
 use Rattle.flight.specs.declared.machine.What.TheVariants.{Thunk, Kept, Store}
 use Rattle.flight.specs.declared.machine.Binding.{Binding}
-use Rattle.flight.specs.declared.machine.Phase.{Phase}
 use Rattle.flight.specs.declared.machine.Frame.{Frame}
 use Rattle.flight.specs.declared.machine.Ending.TheVariants.{Full}
 use Rattle.flight.specs.Tables.{Lookup}
@@ -77,12 +76,12 @@ module _ (ns : List Row) (gs : List Leg) (t : Tables) (q s d : ℕ) (P : Poised 
       }
 
   -- a kid is worked out first
-  pub wait_leads : (f : Act) (p : Phase) (k : ℕ) → PhaseOk (length V) p → Under ns P.lv k (size_at B s)
+  pub wait_leads : (f : Act) (p : Option ℕ) (k : ℕ) → FirstOk (length V) p → Under ns P.lv k (size_at B s)
       → ((E : Runner) (L : byname.Limits) (st : byname.State)
-      → byname.and_then (byname.begin L (E L k (scope_at E L V B s)) (d + 1) st) (resumed E L ns (value_at V) (record { node = q; scope = s; depth = d; phase = p }) (scope_at E L V B s) p) ≡ f E L st)
-      → Leads ns gs t f (pushed (record { node = q; scope = s; depth = d; phase = p }) t) (Eval k s (d + 1))
+      → byname.and_then (byname.begin L (E L k (scope_at E L V B s)) (d + 1) st) (resumed E L ns (value_at V) (record { spot = the_spot q s d; first = p }) (scope_at E L V B s) p) ≡ f E L st)
+      → Leads ns gs t f (pushed (record { spot = the_spot q s d; first = p }) t) (Eval (the_spot k s (d + 1)))
   wait_leads f p k ok u h =
-      let fr : Frame = record { node = q; scope = s; depth = d; phase = p } in
+      let fr : Frame = record { spot = the_spot q s d; first = p } in
       let e : length (t.frames ++ (fr ∷ [])) ≡ length t.frames + 1 = length-append t.frames (fr ∷ []) in
       let dp = P.deep in
       let ls = P.least in
@@ -91,7 +90,7 @@ module _ (ns : List Row) (gs : List Leg) (t : Tables) (q s d : ℕ) (P : Poised 
           lv = P.lv;
           lv_is = P.lv_is;
           laid = P.laid;
-          sound = sound_pushed ns P.lv t fr P.sound (record { node = P.node; scope = P.scope; deep = dp; least = ls; phase = ok }) (omega arith) P.slack;
+          sound = sound_pushed ns P.lv t fr P.sound (record { node = P.node; scope = P.scope; deep = dp; least = ls; first = ok }) (omega arith) P.slack;
           control = (u, P.scope, omega arith, omega arith);
         };
         means = λ E y n r.
@@ -116,7 +115,7 @@ module _ (ns : List Row) (gs : List Leg) (t : Tables) (q s d : ℕ) (P : Poised 
   -- a binding, and then a node with it in scope
   pub bind_leads : (k : ℕ) (w : What) (b : ℕ) → length t.log < 4096 → WhatOk ns P.lv B (length V) (length B) w
       → Under ns P.lv b (suc (size_at B s))
-      → Leads ns gs t (bind_act t k w b s d) (opened k w s t) (Eval b (length B + 1) (d + 1))
+      → Leads ns gs t (bind_act t k w b s d) (opened k w s t) (Eval (the_spot b (length B + 1) (d + 1)))
   bind_leads k w b lt ok u =
       let nb = new_binding B k w s in
       let e : length (B ++ (nb ∷ [])) ≡ length B + 1 = length-append B (nb ∷ []) in
@@ -168,7 +167,7 @@ module _ (ns : List Row) (gs : List Leg) (t : Tables) (q s d : ℕ) (P : Poised 
   look_full k b w e = full_leads (found_act k b w) (λ E n st l. full_look E (scopes E (byname.house n) (value_at V) B) k b w n st l) e
 
   pub look_later : (k b x z : ℕ) → length t.log < 4096 → Under ns P.lv x (size_at B z) → z ≤ length B
-      → Leads ns gs t (found_act k b (Thunk x z)) (noted (Lookup k b) t) (Eval x z (d + 1))
+      → Leads ns gs t (found_act k b (Thunk x z)) (noted (Lookup k b) t) (Eval (the_spot x z (d + 1)))
   look_later k b x z lt u le =
       let dp = P.deep in
       let ls = P.least in
@@ -232,7 +231,7 @@ module _ (ns : List Row) (gs : List Leg) (t : Tables) (q s d : ℕ) (P : Poised 
     name_full e = named b.what refl t (Over Full) (look_full b.binder r b.what e)
 
     pub name_later : (k z : ℕ) → b.what ≡ Thunk k z → length t.log < 4096
-        → Leads ns gs t (name_act t l s d) (noted (Lookup b.binder r) t) (Eval k z (d + 1))
+        → Leads ns gs t (name_act t l s d) (noted (Lookup b.binder r) t) (Eval (the_spot k z (d + 1)))
     name_later k z e lt =
         let o = ok (Thunk k z) e in
         let p = o.0 in

@@ -11,7 +11,6 @@ pub mod Step
 pub mod Fly
 pub mod Spelled
 pub mod Props
-pub mod Levels
 pub mod Placed
 pub mod Owns
 pub mod Flyable

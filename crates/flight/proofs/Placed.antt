@@ -16,7 +16,7 @@ use Rattle.plan.proofs.Kids.{flat_head}
 use Rattle.plan.proofs.Ends.{some_nodes}
 use Rattle.typer.specs.Levels.{levels}
 use Rattle.typer.specs.Depths.{kid_depth, kid_levels}
-use Rattle.flight.proofs.Levels.{levels_view, levels_length}
+use Rattle.typer.proofs.Views.{levels_view, levels_length}
 use Rattle.flight.specs.Nodes.{no_leg, kind_at, end_at}
 use Rattle.flight.specs.Sound.{Under, Args, LaidNode}
 use Rattle.flight.specs.Spelled.{below, trees, SameLeg, from_leg, Spells}

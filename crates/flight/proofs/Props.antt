@@ -1,12 +1,12 @@
 -- What holds between steps has one proof at most. Assumes nothing.
-use Rattle.std.proofs.Common.{ℕ, zero, suc, List, length, get_or, refl, subst}
+use Rattle.std.proofs.Common.{ℕ, zero, suc, Option, Some, None, List, length, get_or, refl, subst}
 use mathlib.Core.HLevel.{Π_prop, →_prop, ×_prop, ⊥_prop, Unit-prop}
 use mathlib.Core.Logic.{∥∥₁_elim}
 use native.Mathlib.Nat.{ℕ_set}
 use native.Mathlib.Bridge.{le_prop}
 use Rattle.flight.specs.Nodes.{kind_at, end_at, level_of}
 use Rattle.flight.specs.Tables.{Tables, size_at, no_binding, no_frame}
-use Rattle.flight.specs.Sound.{Under, Args, Laid, LaidNode, WhatOk, BindingOk, PartOk, PhaseOk, FrameOk, Sound, ControlOk, Ready, Fine, IsNothing, IsLeft, IsRight}
+use Rattle.flight.specs.Sound.{Under, Args, Laid, LaidNode, WhatOk, BindingOk, PartOk, FirstOk, FrameOk, Sound, ControlOk, Ready, Fine, IsNothing, IsLeft, IsRight}
 use Rattle.plan.specs.declared.Node.{Node}
 use Rattle.plan.specs.declared.Node.TheVariants.{Unit as k_unit, Number, Name, Let, Take, Pair, Split, Left, Right, Case, Call, Add, Less}
 use Rattle.plan.specs.declared.Leg.{Leg}
@@ -15,8 +15,6 @@ use Rattle.flight.specs.declared.machine.Part.TheVariants.{Nothing, Num, Both, I
 use Rattle.flight.specs.declared.machine.What.{What}
 use Rattle.flight.specs.declared.machine.What.TheVariants.{Thunk, Kept, Store}
 use Rattle.flight.specs.declared.machine.Binding.{Binding}
-use Rattle.flight.specs.declared.machine.Phase.{Phase}
-use Rattle.flight.specs.declared.machine.Phase.TheVariants.{First, Second}
 use Rattle.flight.specs.declared.machine.Frame.{Frame}
 use Rattle.flight.specs.declared.machine.Control.{Control}
 use Rattle.flight.specs.declared.machine.Control.TheVariants.{Eval, Return, Draw, Over}
@@ -71,9 +69,9 @@ module _ (ns : List Row) (gs : List Leg) (lv : ℕ → ℕ) where
   part_prop i (InLeft u) = le_prop
   part_prop i (InRight u) = le_prop
 
-  phase_prop : (vs : ℕ) (p : Phase) → IsProp (PhaseOk vs p)
-  phase_prop vs First = Unit-prop
-  phase_prop vs (Second u) = le_prop
+  first_prop : (vs : ℕ) (p : Option ℕ) → IsProp (FirstOk vs p)
+  first_prop vs None = Unit-prop
+  first_prop vs (Some u) = le_prop
 
   frame_prop : (bs : List Binding) (vs i : ℕ) (f : Frame) → IsProp (FrameOk ns lv bs vs i f)
   frame_prop bs vs i f u v = λ j.
@@ -82,7 +80,7 @@ module _ (ns : List Row) (gs : List Leg) (lv : ℕ → ℕ) where
         scope = le_prop u.scope v.scope j;
         deep = le_prop u.deep v.deep j;
         least = le_prop u.least v.least j;
-        phase = phase_prop vs f.phase u.phase v.phase j;
+        first = first_prop vs f.first u.first v.first j;
       }
 
   nothing_prop : (p : Part) → IsProp (IsNothing p)
@@ -124,7 +122,7 @@ module _ (ns : List Row) (gs : List Leg) (lv : ℕ → ℕ) where
       }
 
   control_prop : (t : Tables) (c : Control) → IsProp (ControlOk ns lv t c)
-  control_prop t (Eval q s d) = λ u v j. (under_prop _ _ u.0 v.0 j, le_prop u.1 v.1 j, le_prop u.2 v.2 j, le_prop u.3 v.3 j)
+  control_prop t (Eval a) = λ u v j. (under_prop _ _ u.0 v.0 j, le_prop u.1 v.1 j, le_prop u.2 v.2 j, le_prop u.3 v.3 j)
   control_prop t (Return v) = le_prop
   control_prop t (Draw k i) = λ u v j. (le_prop u.0 v.0 j, le_prop u.1 v.1 j, le_prop u.2 v.2 j)
   control_prop t (Over e) = Unit-prop

@@ -5,7 +5,7 @@ use lib.Seq.{get_or-append_seam}
 use Rattle.plan.specs.Trees as plan
 use Rattle.evaluation.specs.Flight as byname
 use Rattle.flight.specs.Nodes.{Runner, Runs, no_leg, kind_at, end_at, kid2, kid3, node_does, bind_kids}
-use Rattle.flight.specs.Tables.{Tables, opened, new_binding, size_at, no_binding}
+use Rattle.flight.specs.Tables.{Tables, the_spot, opened, new_binding, size_at, no_binding}
 use Rattle.flight.specs.Means.{scope_at, entry_of}
 use Rattle.flight.specs.Sound.{Ready, PartOk}
 use Rattle.flight.specs.Spelled.{trees, below, SameLeg, from_leg, Spells, Spelled, runner, Main, blank, Storing, Begun}
@@ -164,7 +164,7 @@ module _ (ns : List Row) (gs : List Leg) (g : Leg) where
         scope = λ E L. refl;
       }
 
-  pub store_more : (t : Tables) (i : ℕ) → Storing ns gs g t i → i < g.count → Storing ns gs g (opened (g.binder.index + i) Store i t) (i + 1)
+  pub store_more : (t : Tables) (i : ℕ) → Storing ns gs g t i → i < length (params_of g) → Storing ns gs g (opened (g.binder.index + i) Store i t) (i + 1)
   store_more t i S lt =
       let M = S.main in
       let B = t.bindings in
@@ -197,11 +197,11 @@ module _ (ns : List Row) (gs : List Leg) (g : Leg) where
   pub storing_at : (t t' : Tables) (i : ℕ) → t' ≡ t → Storing ns gs g t i → Storing ns gs g t' i
   storing_at t t' i e S = subst (λ (x : Tables). Storing ns gs g x i) (sym e) S
 
-  module _ (t : Tables) (i : ℕ) (S : Storing ns gs g t i) (ge : g.count ≤ i) (counted : length (params_of g) ≡ g.count) where
-    same : i ≡ g.count
+  module _ (t : Tables) (i : ℕ) (S : Storing ns gs g t i) (ge : length (params_of g) ≤ i) where
+    same : i ≡ length (params_of g)
     same = let u = S.upto in omega arith
 
-    pub begin_ready : Ready ns gs t (Eval g.first g.count 1)
+    pub begin_ready : Ready ns gs t (Eval (the_spot g.first (length (params_of g)) 1))
     begin_ready =
         let M = S.main in
         let fr : length t.frames ≡ 0 = ap length S.frames in
@@ -212,10 +212,10 @@ module _ (ns : List Row) (gs : List Leg) (g : Leg) where
           lv_is = M.lv_is;
           laid = M.laid;
           sound = S.sound;
-          control = ((M.node.0, M.node.1 ∙ counted ∙ sym (ap (size_at t.bindings) (sym same) ∙ S.size ∙ same)), omega arith, omega arith, omega arith);
+          control = ((M.node.0, M.node.1 ∙ sym (ap (size_at t.bindings) (sym same) ∙ S.size ∙ same)), omega arith, omega arith, omega arith);
         }
 
-    pub begin_stands : Begun ns gs g t (Eval g.first g.count 1)
+    pub begin_stands : Begun ns gs g t (Eval (the_spot g.first (length (params_of g)) 1))
     begin_stands y =
         let E = runner ns gs in
         let bg = S.begun in
@@ -224,7 +224,7 @@ module _ (ns : List Row) (gs : List Leg) (g : Leg) where
           rest = bg;
           most = omega arith;
           means = λ n le. (let L = byname.house n in
-              let e = same ∙ sym counted in
+              let e = same in
               (λ j. unwind E L ns t.values t.bindings (reverse (S.frames j))
               (byname.begin L (E L g.first ((ap (scope_at E L t.values t.bindings) (sym same) ∙ S.scope E L ∙ ap (byname.stores L f) e) j)) 1
               (record { begun = S.begun j; log = (S.log ∙ ap (byname.stores_log f) e) j; next = (S.made ∙ e) j; left = y }))));

@@ -1,9 +1,10 @@
 -- Whole steps. Assumes nothing.
-use Rattle.std.proofs.Common.{◌≡◌, ℕ, ◌+◌, ◌<◌, ◌≤◌, Bool, true, false, cond, T, eqb, List, [], ◌∷◌, ◌++◌, reverse, length, sym, refl, ap, ◌∙◌, subst, ap₂, arith, eqb→eq, length-append}
+use Rattle.std.proofs.Common.{◌≡◌, ℕ, ◌+◌, ◌<◌, ◌≤◌, Bool, true, false, cond, eqb, List, [], ◌∷◌, ◌++◌, reverse, length, sym, refl, ap, ◌∙◌, subst, ap₂, arith, eqb-true, length-append}
+use Rattle.std.proofs.lemmas.Bool.{eqb-false}
 use Rattle.evaluation.specs.Flight.{at}
 use Rattle.evaluation.specs.Flight as byname
 use Rattle.flight.specs.Nodes.{kind_at, node_does}
-use Rattle.flight.specs.Tables.{Tables, noted, valued, ticked}
+use Rattle.flight.specs.Tables.{Tables, the_spot, noted, valued, ticked}
 use Rattle.flight.specs.Means.{value_at, scope_at, unwind, state_of}
 use Rattle.flight.specs.Sound.{Ready, Poised, Leads, node_act, frame_act, Steps}
 use Rattle.plan.specs.declared.Leg.{Leg}
@@ -14,12 +15,12 @@ use Rattle.flight.specs.Tables.{Lookup}
 use Rattle.flight.specs.declared.machine.Control.{Control}
 use Rattle.flight.specs.declared.machine.Control.TheVariants.{Eval, Return, Draw, Over}
 use Rattle.plan.specs.declared.Row.{Row}
-use Rattle.flight.proofs.Decode.{value_new, eqb_same}
+use Rattle.flight.proofs.Decode.{value_new}
 use Rattle.flight.proofs.Keeps.{sound_noted, sound_valued, sound_ticked, sound_popped}
 use Rattle.flight.proofs.Gates.{begin_room, begin_long, begin_deep, state_ticked, state_noted, reverse_push, unwind_valued}
 use Rattle.flight.specs.Calling.{Given}
 
-module _ (ns : List Row) (gs : List Leg) (t : Tables) (q s d : ℕ) (R : Ready ns gs t (Eval q s d)) where
+module _ (ns : List Row) (gs : List Leg) (t : Tables) (q s d : ℕ) (R : Ready ns gs t (Eval (the_spot q s d))) where
   pub poised : t.begun < 2048 → d < 129 → Poised ns gs (ticked t) q s d
   poised lb ld =
       let C = R.control in
@@ -38,7 +39,7 @@ module _ (ns : List Row) (gs : List Leg) (t : Tables) (q s d : ℕ) (R : Ready n
       }
 
   pub begin_works : t.begun < 2048 → d < 129 → (y : ℕ → List ℕ) (t' : Tables) (c' : Control) → Leads ns gs (ticked t) (node_act ns gs (ticked t) q s d) t' c'
-      → Steps ns gs y t (Eval q s d) y t' c'
+      → Steps ns gs y t (Eval (the_spot q s d)) y t' c'
   begin_works lb ld y t' c' l =
       let f = l.falls in
       let b = l.begun in
@@ -55,7 +56,7 @@ module _ (ns : List Row) (gs : List Leg) (t : Tables) (q s d : ℕ) (R : Ready n
         most = omega arith;
       }
 
-  pub begin_too_long : 2048 ≤ t.begun → (y : ℕ → List ℕ) → Steps ns gs y t (Eval q s d) y t (Over Long)
+  pub begin_too_long : 2048 ≤ t.begun → (y : ℕ → List ℕ) → Steps ns gs y t (Eval (the_spot q s d)) y t (Over Long)
   begin_too_long ge y =
       record {
         ready = record { lv = R.lv; lv_is = R.lv_is; laid = R.laid; sound = R.sound; control = tt };
@@ -66,7 +67,7 @@ module _ (ns : List Row) (gs : List Leg) (t : Tables) (q s d : ℕ) (R : Ready n
         most = omega arith;
       }
 
-  pub begin_too_deep : t.begun < 2048 → 129 ≤ d → (y : ℕ → List ℕ) → Steps ns gs y t (Eval q s d) y t (Over Deep)
+  pub begin_too_deep : t.begun < 2048 → 129 ≤ d → (y : ℕ → List ℕ) → Steps ns gs y t (Eval (the_spot q s d)) y t (Over Deep)
   begin_too_deep lb ge y =
       record {
         ready = record { lv = R.lv; lv_is = R.lv_is; laid = R.laid; sound = R.sound; control = tt };
@@ -83,7 +84,7 @@ abbrev pub popped : List Frame → Tables → Tables
 popped fs t = record { frames = fs; bindings = t.bindings; values = t.values; log = t.log; begun = t.begun }
 
 module _ (ns : List Row) (gs : List Leg) (t : Tables) (v : ℕ) (R : Ready ns gs t (Return v)) (fs : List Frame) (f : Frame) (e : t.frames ≡ fs ++ (f ∷ [])) where
-  pub given : Given ns gs (popped fs t) f.node f.scope f.depth f.phase v
+  pub given : Given ns gs (popped fs t) f.spot.node f.spot.scope f.spot.depth f.first v
   given =
       let p = sound_popped ns R.lv t fs f e R.sound in
       let o = p.1 in
@@ -99,7 +100,7 @@ module _ (ns : List Row) (gs : List Leg) (t : Tables) (v : ℕ) (R : Ready ns gs
           least = o.least;
           slack = p.2;
         };
-        phase = o.phase;
+        first = o.first;
         value = R.control;
       }
 
@@ -138,8 +139,8 @@ module _ (ns : List Row) (gs : List Leg) (t : Tables) (k i : ℕ) (R : Ready ns 
   same_bay x e h j = go (eqb j i) refl
     where
       go : (b : Bool) → eqb j i ≡ b → y' j ≡ cond b (y' i) (y j)
-      go true q = ap y' (eqb→eq j i (subst T (sym q) tt))
-      go false q = h j (λ p. subst T (sym (eqb_same i) ∙ ap (λ z. eqb z i) (sym p) ∙ q) tt)
+      go true q = ap y' (eqb-true j i q)
+      go false q = h j (eqb-false j i q)
 
   pub draw_some : (x : ℕ) → x < 4294967296 → y i ≡ x ∷ y' i → ((j : ℕ) → (j ≡ i → ⊥) → y' j ≡ y j)
       → Steps ns gs y t (Draw k i) y' (valued (Num x) (noted (Lookup k i) t)) (Return (length t.values))

@@ -1,5 +1,5 @@
 -- The nodes, by kind. Assumes nothing.
-use Rattle.std.proofs.Common.{◌≡◌, ℕ, suc, ◌+◌, List, [], length, get_or, sym, refl, ap, ◌∙◌, subst, arith}
+use Rattle.std.proofs.Common.{◌≡◌, ℕ, suc, ◌+◌, None, List, [], length, get_or, sym, refl, ap, ◌∙◌, subst, arith}
 use Rattle.evaluation.specs.Flight.{at}
 use Rattle.evaluation.specs.Flight as byname
 use Rattle.flight.specs.Nodes.{Runner, kind_at, kid2, first, node_does, no_leg}
@@ -17,7 +17,6 @@ use Rattle.flight.specs.declared.machine.Part.{Part}
 use Rattle.flight.specs.declared.machine.Part.TheVariants.{Nothing, Num}
 use Rattle.flight.specs.declared.machine.What.TheVariants.{Thunk}
 use Rattle.flight.specs.declared.machine.Binding.{Binding}
-use Rattle.flight.specs.declared.machine.Phase.TheVariants.{First}
 use Rattle.flight.specs.declared.machine.Control.{Control}
 use Rattle.flight.specs.declared.machine.Control.TheVariants.{Return}
 use Rattle.plan.specs.declared.Row.{Row}
@@ -116,15 +115,15 @@ module _ (ns : List Row) (gs : List Leg) (t : Tables) (q s d : ℕ) (P : Poised 
   pub calls : (g : LegId) (m : ℕ) → kind_at ns q ≡ Call g m → Calls ns gs t (get_or gs g.index no_leg) m q s d
   calls g m e = let l = laid_as (Call g m) e in record { poised = P; args = l.1; leg = l.2; fits = l.3 }
 
-  pub waits : Strict (kind_at ns q) → Waits ns gs t q s d First (q + 1)
+  pub waits : Strict (kind_at ns q) → Waits ns gs t q s d None (q + 1)
   waits h =
       let k = strict_kid ns gs P.lv (kind_at ns q) q h (P.laid.each q P.node.0) in
-      record { poised = P; phase = tt; kid = (k.0, k.1 ∙ P.node.1) }
+      record { poised = P; first = tt; kid = (k.0, k.1 ∙ P.node.1) }
 
-  pub wait_as : Strict (kind_at ns q) → (t' : Tables) (c' : Control) → Leads ns gs t (wait_act ns t q s d First (q + 1)) t' c'
+  pub wait_as : Strict (kind_at ns q) → (t' : Tables) (c' : Control) → Leads ns gs t (wait_act ns t q s d None (q + 1)) t' c'
       → Leads ns gs t (node_act ns gs t q s d) t' c'
   wait_as h t' c' l =
-      leads_as ns gs t (wait_act ns t q s d First (q + 1)) (node_act ns gs t q s d) t' c'
+      leads_as ns gs t (wait_act ns t q s d None (q + 1)) (node_act ns gs t q s d) t' c'
       (λ E L st. strict_does E L ns gs (kind_at ns q) q (scope_at E L V B s) d st h) l
 
   pub unit_leads : kind_at ns q ≡ k_unit → Leads ns gs t (node_act ns gs t q s d) t (Return 0)

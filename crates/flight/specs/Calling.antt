@@ -1,16 +1,15 @@
 -- The bindings of a call's arguments, one by one; and what waits. Assumes nothing.
-use Rattle.std.specs.Prelude.{◌≡◌, ℕ, suc, ◌+◌, ◌-◌, ◌<◌, ◌≤◌, List, [], ◌∷◌, reverse, length}
+use Rattle.std.specs.Prelude.{◌≡◌, ℕ, suc, ◌+◌, ◌-◌, ◌<◌, ◌≤◌, Option, List, [], ◌∷◌, reverse, length}
 use Rattle.evaluation.specs.Flight as byname
 use Rattle.plan.specs.Trees.{the_binder}
 use Rattle.flight.specs.Nodes.{Runner, bind_kids, kind_at, after, both}
-use Rattle.flight.specs.Tables.{Tables, size_at}
+use Rattle.flight.specs.Tables.{Tables, the_spot, size_at}
 use Rattle.flight.specs.Means.{unwind, state_of, value_at, scope_at, resumed}
-use Rattle.flight.specs.Sound.{Under, Args, Poised, Act, PhaseOk}
+use Rattle.flight.specs.Sound.{Under, Args, Poised, Act, FirstOk}
 use Rattle.plan.specs.declared.Node.{Node}
 use Rattle.plan.specs.declared.Node.TheVariants.{Case}
 use Rattle.plan.specs.declared.Row.{Row}
 use Rattle.plan.specs.declared.Leg.{Leg}
-use Rattle.flight.specs.declared.machine.Phase.{Phase}
 
 -- what is left of a call: c arguments from the kid at x on, with the binder k on, in front of the scope at i
 abbrev pub rest_act : List Row → Tables → Leg → ℕ → ℕ → ℕ → ℕ → ℕ → ℕ → Act
@@ -46,20 +45,20 @@ pub record Calling (ns : List Row) (gs : List Leg) (t₀ t : Tables) (g : Leg) (
       ≡ unwind E (byname.house n) ns t₀.values t₀.bindings (reverse t₀.frames) (call_act ns t₀ g m q s d E (byname.house n) (state_of t₀ y))
 
 -- a kid is worked out, and then the node goes on
-abbrev pub wait_act : List Row → Tables → ℕ → ℕ → ℕ → Phase → ℕ → Act
+abbrev pub wait_act : List Row → Tables → ℕ → ℕ → ℕ → Option ℕ → ℕ → Act
 wait_act ns t q s d p k E L st =
     byname.and_then (byname.begin L (E L k (scope_at E L t.values t.bindings s)) (d + 1) st)
-    (resumed E L ns (value_at t.values) (record { node = q; scope = s; depth = d; phase = p }) (scope_at E L t.values t.bindings s) p)
+    (resumed E L ns (value_at t.values) (record { spot = the_spot q s d; first = p }) (scope_at E L t.values t.bindings s) p)
 
-pub record Waits (ns : List Row) (gs : List Leg) (t : Tables) (q s d : ℕ) (p : Phase) (k : ℕ) : Type 0 where
+pub record Waits (ns : List Row) (gs : List Leg) (t : Tables) (q s d : ℕ) (p : Option ℕ) (k : ℕ) : Type 0 where
   pub poised : Poised ns gs t q s d
-  pub phase : PhaseOk (length t.values) p
+  pub first : FirstOk (length t.values) p
   pub kid : Under ns poised.lv k (size_at t.bindings s)
 
 -- a value is given to the frame of the node q
-pub record Given (ns : List Row) (gs : List Leg) (t : Tables) (q s d : ℕ) (p : Phase) (v : ℕ) : Type 0 where
+pub record Given (ns : List Row) (gs : List Leg) (t : Tables) (q s d : ℕ) (p : Option ℕ) (v : ℕ) : Type 0 where
   pub poised : Poised ns gs t q s d
-  pub phase : PhaseOk (length t.values) p
+  pub first : FirstOk (length t.values) p
   pub value : v < length t.values
 
 -- two bindings of values, and then a node with both in scope

@@ -14,34 +14,34 @@ use Rattle.flight.specs.declared.machine.Outcome.TheVariants.{InAir, Ended, Done
 
 -- there is a step to make, in a call for n evaluations that began at f
 abbrev pub goes : Tables → Control → ℕ → ℕ → Bool
-goes t (Eval q s d) f n = nat_lt (t.begun - f) n
+goes t (Eval a) f n = nat_lt (t.begun - f) n
 goes t (Return v) f n = nat_lt 0 (length t.frames)
 goes t (Draw k i) f n = true
 goes t (Over e) f n = false
 
 -- what the state at rest comes to
 abbrev pub shown : (ℕ → List ℕ) → Tables → Control → byname.Out
-shown y t (Eval q s d) = byname.ended byname.in_air (state_of t y)
+shown y t (Eval a) = byname.ended byname.in_air (state_of t y)
 shown y t (Return v) = byname.value (value_at t.values v) (state_of t y)
 shown y t (Draw k i) = byname.ended byname.in_air (state_of t y)
 shown y t (Over e) = byname.ended (ending_of e) (state_of t y)
 
 abbrev pub at_end : Control → Bool
-at_end (Eval q s d) = false
+at_end (Eval a) = false
 at_end (Return v) = true
 at_end (Draw k i) = false
 at_end (Over e) = true
 
 -- what a caller is told
 abbrev pub told : Tables → Control → Outcome
-told t (Eval q s d) = InAir
+told t (Eval a) = InAir
 told t (Return v) = Done (byname.as_number (value_at t.values v))
 told t (Draw k i) = InAir
 told t (Over e) = Ended e
 
 -- At rest, where N evaluations were granted so far: the next one is not begun for want of budget, or all is over.
 abbrev pub AtRest : ℕ → Tables → Control → Type 0
-AtRest N t (Eval q s d) = t.begun ≡ N
+AtRest N t (Eval a) = t.begun ≡ N
 AtRest N t (Return v) = length t.frames ≡ 0
 AtRest N t (Draw k i) = ⊥
 AtRest N t (Over e) = Unit {0}
@@ -59,7 +59,7 @@ Flies ns gs n y t c y' t' c' =
     → Aloft ns E o (N + n) y' t' c' × (shown y' t' c' ≡ o (N + n))
 
 abbrev pub EndedAt : Tables → Control → Type 0
-EndedAt t (Eval q s d) = ⊥
+EndedAt t (Eval a) = ⊥
 EndedAt t (Return v) = length t.frames ≡ 0
 EndedAt t (Draw k i) = ⊥
 EndedAt t (Over e) = Unit {0}
@@ -74,7 +74,7 @@ pub record Flying (ns : List Row) (gs : List Leg) (n : ℕ) (y : ℕ → List �
 
 -- a step can be made
 abbrev pub Moves : Tables → Control → Type 0
-Moves t (Eval q s d) = Unit {0}
+Moves t (Eval a) = Unit {0}
 Moves t (Return v) = 0 < length t.frames
 Moves t (Draw k i) = Unit {0}
 Moves t (Over e) = ⊥

@@ -1,5 +1,5 @@
 -- What a state of the machine still has to give. Assumes nothing.
-use Rattle.std.specs.Prelude.{ℕ, ◌-◌, List, [], ◌∷◌, map, reverse, length, slice_index_or}
+use Rattle.std.specs.Prelude.{ℕ, ◌-◌, Option, Some, None, List, [], ◌∷◌, map, reverse, length, slice_index_or}
 use Rattle.evaluation.specs.Flight as byname
 use Rattle.flight.specs.Grow.{grow}
 use Rattle.flight.specs.Nodes.{Runner, kind_at, both, after}
@@ -9,8 +9,6 @@ use Rattle.flight.specs.declared.machine.Part.TheVariants.{Nothing, Num, Both, I
 use Rattle.flight.specs.declared.machine.What.{What}
 use Rattle.flight.specs.declared.machine.What.TheVariants.{Thunk, Kept, Store}
 use Rattle.flight.specs.declared.machine.Binding.{Binding}
-use Rattle.flight.specs.declared.machine.Phase.{Phase}
-use Rattle.flight.specs.declared.machine.Phase.TheVariants.{First, Second}
 use Rattle.plan.specs.declared.Row.{Row}
 use Rattle.flight.specs.declared.machine.Frame.{Frame}
 use Rattle.flight.specs.declared.machine.Entry.{Entry}
@@ -46,12 +44,12 @@ scopes E L val bs = grow (scope_of E L val) ([] ∷ []) bs
 abbrev pub scope_at : Runner → byname.Limits → List Part → List Binding → ℕ → byname.Scope
 scope_at E L ps bs i = slice_index_or (scopes E L (value_at ps) bs) i []
 
-abbrev pub resumed : Runner → byname.Limits → List Row → (ℕ → byname.Value) → Frame → byname.Scope → Phase → byname.Value → byname.State → byname.Out
-resumed E L ns val f ρ First v s = after E L ns (kind_at ns f.node) f.node ρ f.depth v s
-resumed E L ns val f ρ (Second u) v s = byname.value (both (kind_at ns f.node) (val u) v) s
+abbrev pub resumed : Runner → byname.Limits → List Row → (ℕ → byname.Value) → Frame → byname.Scope → Option ℕ → byname.Value → byname.State → byname.Out
+resumed E L ns val f ρ None v s = after E L ns (kind_at ns f.spot.node) f.spot.node ρ f.spot.depth v s
+resumed E L ns val f ρ (Some u) v s = byname.value (both (kind_at ns f.spot.node) (val u) v) s
 
 abbrev pub frame_means : Runner → byname.Limits → List Row → List Part → List Binding → Frame → byname.Value → byname.State → byname.Out
-frame_means E L ns ps bs f v s = resumed E L ns (value_at ps) f (scope_at E L ps bs f.scope) f.phase v s
+frame_means E L ns ps bs f v s = resumed E L ns (value_at ps) f (scope_at E L ps bs f.spot.scope) f.first v s
 
 -- the frames from the top
 abbrev pub unwind : Runner → byname.Limits → List Row → List Part → List Binding → List Frame → byname.Out → byname.Out
@@ -75,7 +73,7 @@ abbrev pub state_of : Tables → (ℕ → List ℕ) → byname.State
 state_of t y = record { begun = t.begun; log = map entry_of t.log; next = length t.bindings; left = y }
 
 abbrev pub control_means : Runner → byname.Limits → List Part → List Binding → Control → byname.State → byname.Out
-control_means E L ps bs (Eval q i d) s = byname.begin L (E L q (scope_at E L ps bs i)) d s
+control_means E L ps bs (Eval a) s = byname.begin L (E L a.node (scope_at E L ps bs a.scope)) a.depth s
 control_means E L ps bs (Return v) s = byname.value (value_at ps v) s
 control_means E L ps bs (Draw k i) s = byname.draw L (s.left i) k i s
 control_means E L ps bs (Over e) s = byname.ended (ending_of e) s

@@ -1,5 +1,5 @@
 -- What holds of the tables between steps, and what a flat plan has to be. Assumes nothing.
-use Rattle.std.specs.Prelude.{◌≡◌, ℕ, zero, suc, ◌+◌, ◌-◌, ◌*◌, ◌<◌, ◌≤◌, List, ◌∷◌, reverse, length, get_or, slice_index_or}
+use Rattle.std.specs.Prelude.{◌≡◌, ℕ, zero, suc, ◌+◌, ◌-◌, ◌*◌, ◌<◌, ◌≤◌, Option, Some, None, List, ◌∷◌, reverse, length, get_or, slice_index_or}
 use Rattle.evaluation.specs.Flight.{at}
 use Rattle.evaluation.specs.Flight as byname
 use Rattle.flight.specs.Nodes.{Runner, Runs, no_leg, kind_at, end_at, kid2, kid3, node_does, level_of}
@@ -14,8 +14,6 @@ use Rattle.flight.specs.declared.machine.Part.TheVariants.{Nothing, Num, Both, I
 use Rattle.flight.specs.declared.machine.What.{What}
 use Rattle.flight.specs.declared.machine.What.TheVariants.{Thunk, Kept, Store}
 use Rattle.flight.specs.declared.machine.Binding.{Binding}
-use Rattle.flight.specs.declared.machine.Phase.{Phase}
-use Rattle.flight.specs.declared.machine.Phase.TheVariants.{First, Second}
 use Rattle.flight.specs.declared.machine.Frame.{Frame}
 use Rattle.flight.specs.declared.machine.Control.{Control}
 use Rattle.flight.specs.declared.machine.Control.TheVariants.{Eval, Return, Draw, Over}
@@ -90,16 +88,16 @@ IsRight (Both u v) = ⊥
 IsRight (InLeft u) = ⊥
 IsRight (InRight u) = u ≡ 0
 
-abbrev pub PhaseOk : ℕ → Phase → Type 0
-PhaseOk vs First = Unit {0}
-PhaseOk vs (Second u) = u < vs
+abbrev pub FirstOk : ℕ → Option ℕ → Type 0
+FirstOk vs None = Unit {0}
+FirstOk vs (Some u) = u < vs
 
 pub record FrameOk (ns : List Row) (lv : ℕ → ℕ) (bs : List Binding) (vs i : ℕ) (f : Frame) : Type 0 where
-  pub node : Under ns lv f.node (size_at bs f.scope)
-  pub scope : f.scope ≤ length bs
-  pub deep : i < f.depth
-  pub least : f.depth ≤ 128
-  pub phase : PhaseOk vs f.phase
+  pub node : Under ns lv f.spot.node (size_at bs f.spot.scope)
+  pub scope : f.spot.scope ≤ length bs
+  pub deep : i < f.spot.depth
+  pub least : f.spot.depth ≤ 128
+  pub first : FirstOk vs f.first
 
 pub record Sound (ns : List Row) (lv : ℕ → ℕ) (t : Tables) : Type 0 where
   pub bindings : (i : ℕ) → i < length t.bindings → BindingOk ns lv t.bindings (length t.values) i (slice_index_or t.bindings i no_binding)
@@ -116,7 +114,7 @@ pub record Sound (ns : List Row) (lv : ℕ → ℕ) (t : Tables) : Type 0 where
   pub not : IsRight (slice_index_or t.values 2 Nothing)
 
 abbrev pub ControlOk : List Row → (ℕ → ℕ) → Tables → Control → Type 0
-ControlOk ns lv t (Eval q s d) = Under ns lv q (size_at t.bindings s) × (s ≤ length t.bindings) × (length t.frames < d) × (d ≤ 129)
+ControlOk ns lv t (Eval a) = Under ns lv a.node (size_at t.bindings a.scope) × (a.scope ≤ length t.bindings) × (length t.frames < a.depth) × (a.depth ≤ 129)
 ControlOk ns lv t (Return v) = v < length t.values
 ControlOk ns lv t (Draw k i) = (i < 8) × (length t.values + length t.frames + 1 ≤ 3 + t.begun) × (length t.log < 4096)
 ControlOk ns lv t (Over e) = Unit {0}
@@ -130,7 +128,7 @@ pub record Ready (ns : List Row) (gs : List Leg) (t : Tables) (c : Control) : Ty
 
 abbrev pub rank : Control → ℕ
 rank (Over e) = 0
-rank (Eval q s d) = 1
+rank (Eval a) = 1
 rank (Return v) = 2
 rank (Draw k i) = 3
 
@@ -176,13 +174,13 @@ frame_act ns t f v E L st = frame_means E L ns t.values t.bindings f (value_at t
 
 -- A step that begins an evaluation is for a budget that is not used up.
 abbrev pub May : ℕ → Tables → Control → Type 0
-May n t (Eval q s d) = t.begun < n
+May n t (Eval a) = t.begun < n
 May n t (Return v) = Unit {0}
 May n t (Draw k i) = Unit {0}
 May n t (Over e) = Unit {0}
 
 abbrev pub starts : Control → ℕ
-starts (Eval q s d) = 1
+starts (Eval a) = 1
 starts (Return v) = 0
 starts (Draw k i) = 0
 starts (Over e) = 0

@@ -75,15 +75,15 @@ pub record Main (ns : List Row) (gs : List Leg) (g : Leg) : Type 0 where
   pub lv_is : lv ≡ level_of ns gs
   pub laid : Laid ns gs lv
   pub node : Under ns lv g.first (length (params_of g))
-  pub few : g.count ≤ 8
-  pub fits : g.binder.index + g.count < 65536
+  pub few : length (params_of g) ≤ 8
+  pub fits : g.binder.index + length (params_of g) < 65536
 
 -- the same at the plan's own count of names
 pub record MainPlain (ns : List Row) (gs : List Leg) (g : Leg) : Type 0 where
   pub laid : Laid ns gs (level_of ns gs)
   pub node : Under ns (level_of ns gs) g.first (length (params_of g))
-  pub few : g.count ≤ 8
-  pub fits : g.binder.index + g.count < 65536
+  pub few : length (params_of g) ≤ 8
+  pub fits : g.binder.index + length (params_of g) < 65536
 
 abbrev pub blank : Tables
 blank = record { frames = []; bindings = []; values = Nothing ∷ InLeft 0 ∷ InRight 0 ∷ []; log = []; begun = 0 }
@@ -92,7 +92,7 @@ blank = record { frames = []; bindings = []; values = Nothing ∷ InLeft 0 ∷ I
 pub record Storing (ns : List Row) (gs : List Leg) (g : Leg) (t : Tables) (i : ℕ) : Type 0 where
   pub main : Main ns gs g
   pub sound : Sound ns main.lv t
-  pub upto : i ≤ g.count
+  pub upto : i ≤ length (params_of g)
   pub made : length t.bindings ≡ i
   pub log : map entry_of t.log ≡ byname.stores_log g.binder.index i
   pub short : length t.log ≡ i

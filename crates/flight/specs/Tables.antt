@@ -1,10 +1,10 @@
 -- The tables of a machine, and what they hold. Assumes nothing.
-use Rattle.std.specs.Prelude.{ℕ, zero, suc, ◌+◌, List, [], ◌∷◌, ◌++◌, length, vec_items, slice_index_or}
+use Rattle.std.specs.Prelude.{ℕ, zero, suc, ◌+◌, None, List, [], ◌∷◌, ◌++◌, length, vec_items, slice_index_or}
 use Rattle.flight.specs.declared.machine.Part.{Part}
 use Rattle.flight.specs.declared.machine.What.{What}
 use Rattle.flight.specs.declared.machine.What.TheVariants.{Store}
 use Rattle.flight.specs.declared.machine.Binding.{Binding}
-use Rattle.flight.specs.declared.machine.Phase.TheVariants.{First}
+use Rattle.flight.specs.declared.machine.Spot.{Spot}
 use Rattle.flight.specs.declared.machine.Frame.{Frame}
 use Rattle.flight.specs.declared.machine.Entry.{Entry}
 use Rattle.flight.specs.declared.machine.Event.TheVariants.{Made as made_event, Lookup as lookup_event}
@@ -36,8 +36,11 @@ Lookup k b = record { event = lookup_event; binder = k; binding = b }
 abbrev pub no_binding : Binding
 no_binding = record { binder = 0; level = 0; parent = 0; what = Store }
 
+abbrev pub the_spot : ℕ → ℕ → ℕ → Spot
+the_spot q s d = record { node = q; scope = s; depth = d }
+
 abbrev pub no_frame : Frame
-no_frame = record { node = 0; scope = 0; depth = 0; phase = First }
+no_frame = record { spot = the_spot 0 0 0; first = None }
 
 -- how many names a scope has
 abbrev pub size_at : List Binding → ℕ → ℕ

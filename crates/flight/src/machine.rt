@@ -1,9 +1,12 @@
 ghost use Rattle.std.specs.Prelude.{◌≤◌, vec_capacity};
 
+mod code;
 mod fly;
 mod log;
 mod start;
 mod steps;
+
+pub(crate) use code::Code;
 
 // A value, by the places of its parts in the table of values.
 #[derive(Clone, Copy)]
@@ -14,6 +17,13 @@ pub enum Part {
     InLeft(u16),
     InRight(u16),
 }
+
+// The places of three values that every flight has: unit, and the two of a comparison.
+const UNIT: u16 = 0;
+
+const TRUE: u16 = 1;
+
+const FALSE: u16 = 2;
 
 // What a lookup does: work out a node in a scope, give a kept value, or draw.
 #[derive(Clone, Copy)]
@@ -32,37 +42,37 @@ pub struct Binding {
     pub what: What,
 }
 
+// Where an evaluation stands.
 #[derive(Clone, Copy)]
-pub enum Phase {
-    First,
-    Second(u16),
-}
-
-// An evaluation of a node that waits for its first kid, or for its second with the first's value.
-#[derive(Clone, Copy)]
-pub struct Frame {
+pub struct Spot {
     pub node: u16,
     pub scope: u16,
     pub depth: u16,
-    pub phase: Phase,
+}
+
+// An evaluation that waits for a kid of its node: for the first, or for the second once the first has given its value.
+#[derive(Clone, Copy)]
+pub struct Frame {
+    pub spot: Spot,
+    pub first: Option<u16>,
 }
 
 // What an entry of the log tells of a binding.
-#[derive(Clone, Copy)]
+#[derive(Clone, Copy, PartialEq, Eq, Debug)]
 pub enum Event {
     Made,
     Lookup,
 }
 
 // An entry of the log: a binding was made or looked up; its binder, and the binding's own number.
-#[derive(Clone, Copy)]
+#[derive(Clone, Copy, PartialEq, Eq, Debug)]
 pub struct Entry {
     pub event: Event,
     pub binder: u16,
     pub binding: u16,
 }
 
-#[derive(Clone, Copy)]
+#[derive(Clone, Copy, PartialEq, Eq, Debug)]
 pub enum Ending {
     Long,
     Deep,
@@ -72,25 +82,26 @@ pub enum Ending {
 
 #[derive(Clone, Copy)]
 pub enum Control {
-    Eval(u16, u16, u16),
+    Eval(Spot),
     Return(u16),
     Draw(u16, u16),
     Over(Ending),
 }
 
-#[derive(Clone, Copy)]
+#[derive(Clone, Copy, PartialEq, Eq, Debug)]
 pub enum Outcome {
     InAir,
     Ended(Ending),
     Done(u32),
 }
 
-#[derive(Clone, Copy)]
+#[derive(Clone, Copy, PartialEq, Eq, Debug)]
 pub struct Flown {
     pub outcome: Outcome,
     pub begun: u32,
 }
 
+// The tables take all their memory at load and grow no further, so what they hold is linked by places in them.
 #[derive(Drop)]
 pub struct Machine {
     frames: Vec<Frame>,

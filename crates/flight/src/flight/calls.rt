@@ -3,11 +3,13 @@ ghost use Rattle.std.specs.Prelude.{◌≡◌, ℕ, ◌+◌, ◌≤◌, List, le
 ghost use Rattle.plan.specs.Trees.{Plan as Tree};
 ghost use Rattle.plan.specs.Plans.{tree};
 ghost use Rattle.std.specs.List.{slice_get};
-ghost use Rattle.flight.specs.Held.{Flyable, main_in};
+ghost use Rattle.flight.specs.Spelled.{Begun};
+ghost use Rattle.flight.specs.Tables.{tables};
+ghost use Rattle.flight.specs.Held.{CanBegin, CanGoOn, Flyable, rows_of, legs_of, main_in};
 ghost use Rattle.flight.specs.Flights.{Flies, LoadAnswer, Written, plan_of, out_of, outcome_of, is_over, lookups_of};
 
 use super::Flight;
-use crate::machine::{Entry, Flown, Machine};
+use crate::machine::{Code, Entry, Flown, Machine};
 use bay::{Bay, STORES};
 use plan::Leg;
 use plan::faults::PlanFault;
@@ -15,13 +17,33 @@ use std::alloc::Global;
 use typer::TypedPlan;
 use typer::typed::read_typed;
 
+fn code_of(plan: &TypedPlan) -> Code<'_>
+    ensures nodes { result.nodes.now ≡ rows_of plan.now }
+    ensures legs { result.legs.now ≡ legs_of plan.now }
+{
+    Code {
+        nodes: plan.plan.nodes.as_slice(),
+        legs: plan.plan.legs.as_slice(),
+    }
+}
+
 // The last leg.
-fn main_of(plan: &TypedPlan) -> Leg
+fn main_of(plan: &TypedPlan) -> &Leg
     requires { 1 ≤ vec_len plan.now.plan.legs }
-    ensures { result ≡ main_in plan.now }
+    ensures { result.now ≡ main_in plan.now }
 {
     let legs = plan.plan.legs.as_slice();
-    legs[legs.len() - 1]
+    &legs[legs.len() - 1]
+}
+
+// Lets the machine stand before the plan's first evaluation.
+fn stand(machine: &mut Machine, plan: &TypedPlan)
+    requires legs { 1 ≤ vec_len plan.now.plan.legs }
+    requires main { CanBegin plan.now }
+    ensures ready { CanGoOn plan.now machine.new }
+    ensures begun { Begun (rows_of plan.now) (legs_of plan.now) (main_in plan.now) (tables machine.new) machine.new.control }
+{
+    machine.clear(code_of(plan), main_of(plan));
 }
 
 impl Flight {
@@ -34,14 +56,12 @@ impl Flight {
         Ok(Flight::over(plan, machine))
     }
 
-    fn over(plan: TypedPlan, machine: Machine) -> Flight
+    fn over(plan: TypedPlan, mut machine: Machine) -> Flight
         requires { Flyable plan }
         ensures plan { result.plan ≡ plan }
         ensures begun { (y : ℕ → List ℕ) → Flies result (tree plan.plan) y 0 y }
     {
-        let mut machine = machine;
-        let main = main_of(&plan);
-        machine.clear(plan.plan.nodes.as_slice(), plan.plan.legs.as_slice(), main);
+        stand(&mut machine, &plan);
         Flight { plan, machine }
     }
 
@@ -50,12 +70,7 @@ impl Flight {
         ensures plan { self.new.plan ≡ self.old.plan }
         ensures begun { Flyable self.old.plan → (y : ℕ → List ℕ) → Flies self.new (plan_of self.old) y 0 y }
     {
-        let main = main_of(&self.plan);
-        self.machine.clear(
-            self.plan.plan.nodes.as_slice(),
-            self.plan.plan.legs.as_slice(),
-            main,
-        );
+        stand(&mut self.machine, &self.plan);
     }
 
     // Flies on for at most n evaluations more: what was flown for N is then flown for N + n. Tells the outcome and the evaluations that this call began.
@@ -66,12 +81,7 @@ impl Flight {
         ensures begun { result.begun + self.old.machine.begun ≡ self.new.machine.begun }
         ensures most { result.begun ≤ n }
     {
-        self.machine.fly(
-            self.plan.plan.nodes.as_slice(),
-            self.plan.plan.legs.as_slice(),
-            bay,
-            n,
-        )
+        self.machine.fly(code_of(&self.plan), bay, n)
     }
 
     // Whether it has ended.
@@ -99,8 +109,8 @@ impl Flight {
     pub fn lookups(&self, store: u8) -> u16
         ensures { result ≡ lookups_of self.now store }
     {
-        if store < main_of(&self.plan).count {
-            self.machine.lookups(store as u16)
+        if usize::from(store) < main_of(&self.plan).params.len() {
+            self.machine.lookups(u16::from(store))
         } else {
             0
         }
@@ -110,10 +120,8 @@ impl Flight {
     pub fn count_lookups(&self, counts: &mut [u16])
         ensures { Written (lookups_of self.now) counts.old counts.new 8 }
     {
-        let mut store = 0;
-        while store < STORES && (store as usize) < counts.len() {
-            counts[store as usize] = self.lookups(store);
-            store += 1;
+        for store in 0..counts.len().min(usize::from(STORES)) {
+            counts[store] = self.lookups(store as u8);
         }
     }
 }

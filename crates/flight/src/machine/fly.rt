@@ -3,59 +3,50 @@ ghost use Rattle.flight.specs.Tables.{tables};
 ghost use Rattle.flight.specs.Sound.{Ready, Steps, Tabled};
 ghost use Rattle.flight.specs.Fly.{at_end, goes, told, Flies, Moves};
 
-use super::{Control, Ending, Entry, Event, Flown, Frame, Machine, Outcome, Part};
+use super::{Code, Control, Ending, Flown, Machine, Outcome, Part, Spot};
 use crate::limits::{MAX_BEGUN, MAX_DEPTH};
 use bay::Bay;
 use plan::{Leg, Row};
 
 impl Machine {
     // Begins an evaluation, unless a limit stops it.
-    fn begin(&mut self, nodes: &[Row], legs: &[Leg], node: u16, scope: u16, depth: u16) -> Control
-        requires { Ready nodes.now legs.now (tables self.old) (Control.Eval node scope depth) }
-        ensures { (y : ℕ → List ℕ) → Steps nodes.now legs.now y (tables self.old) (Control.Eval node scope depth) y (tables self.new) result }
+    fn begin(&mut self, code: Code, spot: Spot) -> Control
+        requires { Ready code.nodes.now code.legs.now (tables self.old) (Control.Eval spot) }
+        ensures { (y : ℕ → List ℕ) → Steps code.entry.nodes.now code.entry.legs.now y (tables self.old) (Control.Eval spot) y (tables self.new) result }
     {
         if self.begun >= MAX_BEGUN {
             return Control::Over(Ending::Long);
         }
-        if depth > MAX_DEPTH {
+        if spot.depth > MAX_DEPTH {
             return Control::Over(Ending::Deep);
         }
         self.begun += 1;
-        self.work(nodes, legs, node, scope, depth)
+        self.work(code, spot)
     }
 
     // Gives a value to the top frame.
-    fn give(&mut self, nodes: &[Row], legs: &[Leg], v: u16) -> Control
-        requires ready { Ready nodes.now legs.now (tables self.old) (Control.Return v) }
+    fn give(&mut self, code: Code, v: u16) -> Control
+        requires ready { Ready code.nodes.now code.legs.now (tables self.old) (Control.Return v) }
         requires some { 0 < length (tables self.old).frames }
-        ensures { (y : ℕ → List ℕ) → Steps nodes.now legs.now y (tables self.old) (Control.Return v) y (tables self.new) result }
+        ensures { (y : ℕ → List ℕ) → Steps code.entry.nodes.now code.entry.legs.now y (tables self.old) (Control.Return v) y (tables self.new) result }
     {
-        let top = self.frames.len() - 1;
-        let frame = self.frames[top];
-        self.frames.truncate(top);
-        self.resume(nodes, legs, frame, v)
+        match self.frames.pop() {
+            None => Control::Return(v),
+            Some(frame) => self.resume(code, frame, v),
+        }
     }
 
     // Draws from a store, and logs the lookup.
-    fn draw<B: Bay>(
-        &mut self,
-        nodes: &[Row],
-        legs: &[Leg],
-        bay: &mut B,
-        binder: u16,
-        store: u16,
-    ) -> Control
-        requires { Ready nodes.now legs.now (tables self.old) (Control.Draw binder store) }
-        ensures { Steps nodes.now legs.now (B.readings bay.old) (tables self.old) (Control.Draw binder store) (B.readings bay.new) (tables self.new) result }
+    fn draw<B: Bay>(&mut self, bay: &mut B, binder: u16, store: u16) -> Control
+        requires store { store < 8 }
+        requires entry { length (tables self.old).log < 4096 }
+        requires value { length (tables self.old).values < 2051 }
+        ensures { (ns : List Row) (gs : List Leg) → Ready ns gs (tables self.old) (Control.Draw binder store) → Steps ns gs (B.readings bay.old) (tables self.old) (Control.Draw binder store) (B.readings bay.new) (tables self.new) result }
     {
         match bay.draw(store as u8) {
             None => Control::Over(Ending::Empty),
             Some(x) => {
-                self.note(Entry {
-                    event: Event::Lookup,
-                    binder,
-                    binding: store,
-                });
+                self.note_lookup(binder, store);
                 Control::Return(self.value(Part::Num(x)))
             }
         }
@@ -67,7 +58,7 @@ impl Machine {
         ensures { result ≡ goes (tables self.now) control from n }
     {
         match control {
-            Control::Eval(_, _, _) => self.begun - from < n,
+            Control::Eval(_) => self.begun - from < n,
             Control::Return(_) => 0 < self.frames.len(),
             Control::Draw(_, _) => true,
             Control::Over(_) => false,
@@ -75,22 +66,16 @@ impl Machine {
     }
 
     // One step, of which at most one evaluation is begun.
-    fn step<B: Bay>(
-        &mut self,
-        nodes: &[Row],
-        legs: &[Leg],
-        bay: &mut B,
-        control: Control,
-    ) -> Control
-        requires ready { Ready nodes.now legs.now (tables self.old) control }
+    fn step<B: Bay>(&mut self, code: Code, bay: &mut B, control: Control) -> Control
+        requires ready { Ready code.nodes.now code.legs.now (tables self.old) control }
         requires moves { Moves (tables self.old) control }
-        ensures { Steps nodes.now legs.now (B.readings bay.old) (tables self.old) control (B.readings bay.new) (tables self.new) result }
+        ensures { Steps code.entry.nodes.now code.entry.legs.now (B.readings bay.old) (tables self.old) control (B.readings bay.new) (tables self.new) result }
     {
         match control {
-            Control::Eval(node, scope, depth) => self.begin(nodes, legs, node, scope, depth),
-            Control::Return(v) => self.give(nodes, legs, v),
-            Control::Draw(binder, store) => self.draw(nodes, legs, bay, binder, store),
-            Control::Over(e) => Control::Over(e),
+            Control::Eval(spot) => self.begin(code, spot),
+            Control::Return(v) => self.give(code, v),
+            Control::Draw(binder, store) => self.draw(bay, binder, store),
+            Control::Over(_) => control,
         }
     }
 
@@ -99,9 +84,8 @@ impl Machine {
         ensures { result ≡ told (tables self.now) control }
     {
         match control {
-            Control::Eval(_, _, _) => Outcome::InAir,
+            Control::Eval(_) | Control::Draw(_, _) => Outcome::InAir,
             Control::Return(v) => Outcome::Done(self.number(v)),
-            Control::Draw(_, _) => Outcome::InAir,
             Control::Over(e) => Outcome::Ended(e),
         }
     }
@@ -110,19 +94,14 @@ impl Machine {
     pub(crate) fn is_over(&self) -> bool
         ensures { result ≡ at_end self.now.control }
     {
-        match self.control {
-            Control::Eval(_, _, _) => false,
-            Control::Return(_) => true,
-            Control::Draw(_, _) => false,
-            Control::Over(_) => true,
-        }
+        matches!(self.control, Control::Return(_) | Control::Over(_))
     }
 
     // Flies on, for at most n evaluations more.
-    pub(crate) fn fly<B: Bay>(&mut self, nodes: &[Row], legs: &[Leg], bay: &mut B, n: u32) -> Flown
-        requires { Ready nodes.now legs.now (tables self.old) self.old.control }
-        ensures ready { Ready nodes.now legs.now (tables self.new) self.new.control }
-        ensures flies { Flies nodes.now legs.now n (B.readings bay.old) (tables self.old) self.old.control (B.readings bay.new) (tables self.new) self.new.control }
+    pub(crate) fn fly<B: Bay>(&mut self, code: Code, bay: &mut B, n: u32) -> Flown
+        requires { Ready code.nodes.now code.legs.now (tables self.old) self.old.control }
+        ensures ready { Ready code.entry.nodes.now code.entry.legs.now (tables self.new) self.new.control }
+        ensures flies { Flies code.entry.nodes.now code.entry.legs.now n (B.readings bay.old) (tables self.old) self.old.control (B.readings bay.new) (tables self.new) self.new.control }
         ensures told { result.outcome ≡ told (tables self.new) self.new.control }
         ensures begun { result.begun + (tables self.old).begun ≡ (tables self.new).begun }
         ensures most { result.begun ≤ n }
@@ -130,7 +109,7 @@ impl Machine {
         let from = self.begun;
         let mut control = self.control;
         while self.going(control, from, n) {
-            control = self.step(nodes, legs, bay, control);
+            control = self.step(code, bay, control);
         }
         self.control = control;
         Flown {

@@ -1,5 +1,5 @@
 // The log of a machine.
-ghost use Rattle.std.specs.Prelude.{◌≡◌, ◌≤◌, [], ◌∷◌, map, length};
+ghost use Rattle.std.specs.Prelude.{◌≡◌, ◌≤◌, map, length};
 ghost use Rattle.std.specs.List.{slice_get};
 ghost use Rattle.evaluation.specs.Flight.{lookups};
 ghost use Rattle.flight.specs.Tables.{tables};
@@ -7,28 +7,13 @@ ghost use Rattle.flight.specs.Means.{entry_of};
 
 use super::{Entry, Event, Machine};
 
-// 1 for a lookup of the binding, 0 for every other entry.
-fn hits(entry: Entry, binding: u16) -> u16
-    ensures is { result ≡ lookups binding (entry_of entry ∷ []) }
-    ensures most { result ≤ 1 }
-{
-    match entry.event {
-        Event::Made => 0,
-        Event::Lookup => { if binding == entry.binding { 1 } else { 0 } }
-    }
-}
-
 fn lookups_in(log: &[Entry], binding: u16) -> u16
     requires { length log.now ≤ 4096 }
     ensures { result ≡ lookups binding (map entry_of log.now) }
 {
-    let mut count = 0;
-    let mut i = 0;
-    while i < log.len() {
-        count += hits(log[i], binding);
-        i += 1;
-    }
-    count
+    log.iter()
+        .filter(|e| e.event == Event::Lookup && binding == e.binding)
+        .count() as u16
 }
 
 impl Machine {
@@ -41,11 +26,7 @@ impl Machine {
     pub(crate) fn entry(&self, at: usize) -> Option<Entry>
         ensures { result ≡ slice_get (tables self.now).log at }
     {
-        if at < self.log.len() {
-            Some(self.log[at])
-        } else {
-            None
-        }
+        self.log.get(at).copied()
     }
 
     // How often a binding was looked up.

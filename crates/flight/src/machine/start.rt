@@ -3,9 +3,9 @@ ghost use Rattle.flight.specs.Tables.{tables};
 ghost use Rattle.flight.specs.Sound.{Ready};
 ghost use Rattle.flight.specs.Spelled.{Main, Begun, blank};
 
-use super::{Binding, Control, Ending, Entry, Frame, Machine, Part, What};
+use super::{Binding, Code, Control, Ending, Entry, Frame, Machine, Part, Spot, What};
 use crate::limits::{MAX_DEPTH, MAX_ENTRIES, MAX_VALUES};
-use plan::{Leg, Row};
+use plan::Leg;
 use std::alloc::{AllocError, Global};
 
 // The three values that every flight has: unit, and unit in the left and in the right.
@@ -48,17 +48,20 @@ impl Machine {
     }
 
     // Binds the stores of main, and stands before main's body.
-    pub(crate) fn clear(&mut self, nodes: &[Row], legs: &[Leg], main: Leg)
-        requires { Main nodes.now legs.now main }
-        ensures ready { Ready nodes.now legs.now (tables self.new) self.new.control }
-        ensures begun { Begun nodes.now legs.now main (tables self.new) self.new.control }
+    pub(crate) fn clear(&mut self, code: Code, main: &Leg)
+        requires { Main code.nodes.now code.legs.now main.now }
+        ensures ready { Ready code.entry.nodes.now code.entry.legs.now (tables self.new) self.new.control }
+        ensures begun { Begun code.entry.nodes.now code.entry.legs.now main.now (tables self.new) self.new.control }
     {
         self.reset();
-        let mut i: u8 = 0;
-        while i < main.count {
-            let _ = self.open(main.binder.index + i as u16, What::Store, i as u16);
-            i += 1;
+        let count = main.params.len() as u16;
+        for i in 0..count {
+            let _ = self.open(main.binder.index + i, What::Store, i);
         }
-        self.control = Control::Eval(main.first, main.count as u16, 1);
+        self.control = Control::Eval(Spot {
+            node: main.first,
+            scope: count,
+            depth: 1,
+        });
     }
 }

@@ -1,20 +1,41 @@
-ghost use Rattle.std.specs.Prelude.{◌≡◌, ℕ, ◌+◌, ◌-◌, ◌<◌, ◌≤◌, List, [], ◌++◌, length, vec_len, vec_capacity};
-ghost use Rattle.flight.specs.Tables.{tables, size_at, opened, noted, valued, pushed, ticked};
+ghost use Rattle.std.specs.Prelude.{◌≡◌, ℕ, ◌+◌, ◌<◌, ◌≤◌, None, List, length};
+ghost use Rattle.flight.specs.Tables.{tables, the_spot, size_at, opened, noted, Lookup, valued, pushed};
 ghost use Rattle.flight.specs.Sound.{Poised, Leads, Tabled, Finds, Binds, bind_act, name_act, node_act, frame_act};
 ghost use Rattle.flight.specs.Calling.{Calls, call_act, Waits, wait_act, Given, split_act, Splits, Halves, case_act, CasesOn, join_act, Joins, after_act};
 ghost use Rattle.flight.specs.Means.{value_at};
 ghost use Rattle.evaluation.specs.Flight.{as_number};
 
-use super::{Binding, Control, Ending, Entry, Event, Frame, Machine, Part, Phase, What};
+use super::{
+    Binding, Code, Control, Ending, Entry, Event, FALSE, Frame, Machine, Part, Spot, TRUE, UNIT,
+    What,
+};
 use crate::limits::MAX_ENTRIES;
 use plan::{Leg, Node, Row};
 
-impl Machine {
-    pub(super) fn note(&mut self, e: Entry)
-        requires { length (tables self.old).log < 4096 }
-        ensures { tables self.new ≡ noted e (tables self.old) }
+impl Spot {
+    // Where another node is worked out for this one.
+    fn below(self, node: u16, scope: u16) -> Spot
+        requires { self.depth < 65535 }
+        ensures { result ≡ the_spot node scope (self.depth + 1) }
     {
-        self.log.push_reserved(e);
+        Spot {
+            node,
+            scope,
+            depth: self.depth + 1,
+        }
+    }
+}
+
+impl Machine {
+    pub(super) fn note_lookup(&mut self, binder: u16, binding: u16)
+        requires { length (tables self.old).log < 4096 }
+        ensures { tables self.new ≡ noted (Lookup binder binding) (tables self.old) }
+    {
+        self.log.push_reserved(Entry {
+            event: Event::Lookup,
+            binder,
+            binding,
+        });
     }
 
     pub(super) fn value(&mut self, p: Part) -> u16
@@ -87,39 +108,25 @@ impl Machine {
     }
 
     // A lookup of the name at a level.
-    fn look(
-        &mut self,
-        nodes: &[Row],
-        legs: &[Leg],
-        node: u16,
-        scope: u16,
-        depth: u16,
-        level: u16,
-    ) -> Control
-        requires poised { Poised nodes.now legs.now (tables self.old) node scope depth }
-        requires named { level < size_at (tables self.old).bindings scope }
-        ensures { Leads nodes.now legs.now (tables self.old) (name_act (tables self.old) level scope depth) (tables self.new) result }
+    fn look(&mut self, spot: Spot, level: u16) -> Control
+        requires sound { Tabled (tables self.old) }
+        requires within { spot.scope ≤ length (tables self.old).bindings }
+        requires named { level < size_at (tables self.old).bindings spot.scope }
+        requires deep { spot.depth ≤ 128 }
+        ensures { (ns : List Row) (gs : List Leg) → Poised ns gs (tables self.old) spot.node spot.scope spot.depth → Leads ns gs (tables self.old) (name_act (tables self.old) level spot.scope spot.depth) (tables self.new) result }
     {
-        let at = self.find(scope, level);
+        let at = self.find(spot.scope, level);
         let b = self.bindings[at as usize];
         if self.log.len() == MAX_ENTRIES {
             return Control::Over(Ending::Full);
         }
         match b.what {
             What::Thunk(kid, outer) => {
-                self.note(Entry {
-                    event: Event::Lookup,
-                    binder: b.binder,
-                    binding: at,
-                });
-                Control::Eval(kid, outer, depth + 1)
+                self.note_lookup(b.binder, at);
+                Control::Eval(spot.below(kid, outer))
             }
             What::Kept(v) => {
-                self.note(Entry {
-                    event: Event::Lookup,
-                    binder: b.binder,
-                    binding: at,
-                });
+                self.note_lookup(b.binder, at);
                 Control::Return(v)
             }
             What::Store => Control::Draw(b.binder, at),
@@ -127,117 +134,67 @@ impl Machine {
     }
 
     // A binding on the scope, and then the node `body` with it.
-    fn bind(
-        &mut self,
-        nodes: &[Row],
-        legs: &[Leg],
-        node: u16,
-        scope: u16,
-        depth: u16,
-        binder: u16,
-        what: What,
-        body: u16,
-    ) -> Control
-        requires { Binds nodes.now legs.now (tables self.old) what body node scope depth }
-        ensures { Leads nodes.now legs.now (tables self.old) (bind_act (tables self.old) binder what body scope depth) (tables self.new) result }
+    fn bind(&mut self, spot: Spot, binder: u16, what: What, body: u16) -> Control
+        requires sound { Tabled (tables self.old) }
+        requires within { spot.scope ≤ length (tables self.old).bindings }
+        requires deep { spot.depth ≤ 128 }
+        ensures { (ns : List Row) (gs : List Leg) → Binds ns gs (tables self.old) what body spot.node spot.scope spot.depth → Leads ns gs (tables self.old) (bind_act (tables self.old) binder what body spot.scope spot.depth) (tables self.new) result }
     {
         if self.log.len() == MAX_ENTRIES {
             return Control::Over(Ending::Full);
         }
-        let inner = self.open(binder, what, scope);
-        Control::Eval(body, inner, depth + 1)
+        let inner = self.open(binder, what, spot.scope);
+        Control::Eval(spot.below(body, inner))
     }
 
     // Waits for a kid of the node.
-    fn wait(
-        &mut self,
-        nodes: &[Row],
-        legs: &[Leg],
-        node: u16,
-        scope: u16,
-        depth: u16,
-        phase: Phase,
-        kid: u16,
-    ) -> Control
-        requires { Waits nodes.now legs.now (tables self.old) node scope depth phase kid }
-        ensures { Leads nodes.now legs.now (tables self.old) (wait_act nodes.now (tables self.old) node scope depth phase kid) (tables self.new) result }
+    fn wait(&mut self, spot: Spot, first: Option<u16>, kid: u16) -> Control
+        requires room { length (tables self.old).frames < 128 }
+        requires deep { spot.depth ≤ 128 }
+        ensures { (ns : List Row) (gs : List Leg) → Waits ns gs (tables self.old) spot.node spot.scope spot.depth first kid → Leads ns gs (tables self.old) (wait_act ns (tables self.old) spot.node spot.scope spot.depth first kid) (tables self.new) result }
     {
-        self.push(Frame {
-            node,
-            scope,
-            depth,
-            phase,
-        });
-        Control::Eval(kid, scope, depth + 1)
+        self.push(Frame { spot, first });
+        Control::Eval(spot.below(kid, spot.scope))
     }
 
     // Binds the arguments of a call, and begins the leg's body.
-    fn call(
-        &mut self,
-        nodes: &[Row],
-        legs: &[Leg],
-        node: u16,
-        scope: u16,
-        depth: u16,
-        leg: Leg,
-        count: u8,
-    ) -> Control
-        requires { Calls nodes.now legs.now (tables self.old) leg count node scope depth }
-        ensures { Leads nodes.now legs.now (tables self.old) (call_act nodes.now (tables self.old) leg count node scope depth) (tables self.new) result }
+    fn call(&mut self, code: Code, spot: Spot, leg: &Leg, count: u8) -> Control
+        requires { Calls code.nodes.now code.legs.now (tables self.old) leg.now count spot.node spot.scope spot.depth }
+        ensures { Leads code.entry.nodes.now code.entry.legs.now (tables self.old) (call_act code.entry.nodes.now (tables self.old) leg.now count spot.node spot.scope spot.depth) (tables self.new) result }
     {
         let mut inner = 0;
-        let mut kid = node + 1;
-        let mut k: u8 = 0;
-        while k < count {
+        let mut kid = spot.node + 1;
+        for k in 0..count {
             if self.log.len() == MAX_ENTRIES {
                 return Control::Over(Ending::Full);
             }
-            inner = self.open(leg.binder.index + k as u16, What::Thunk(kid, scope), inner);
-            kid = nodes[kid as usize].end;
-            k += 1;
+            inner = self.open(
+                leg.binder.index + u16::from(k),
+                What::Thunk(kid, spot.scope),
+                inner,
+            );
+            kid = code.nodes[kid as usize].end;
         }
-        Control::Eval(leg.first, inner, depth + 1)
+        Control::Eval(spot.below(leg.first, inner))
     }
 
     // What a node does once its evaluation has begun.
-    pub(super) fn work(
-        &mut self,
-        nodes: &[Row],
-        legs: &[Leg],
-        node: u16,
-        scope: u16,
-        depth: u16,
-    ) -> Control
-        requires { Poised nodes.now legs.now (tables self.old) node scope depth }
-        ensures { Leads nodes.now legs.now (tables self.old) (node_act nodes.now legs.now (tables self.old) node scope depth) (tables self.new) result }
+    pub(super) fn work(&mut self, code: Code, spot: Spot) -> Control
+        requires { Poised code.nodes.now code.legs.now (tables self.old) spot.node spot.scope spot.depth }
+        ensures { Leads code.entry.nodes.now code.entry.legs.now (tables self.old) (node_act code.entry.nodes.now code.entry.legs.now (tables self.old) spot.node spot.scope spot.depth) (tables self.new) result }
     {
-        match nodes[node as usize].node {
-            Node::Unit => Control::Return(0),
+        let node = spot.node;
+        match code.nodes[node as usize].node {
+            Node::Unit => Control::Return(UNIT),
             Node::Number(x) => Control::Return(self.value(Part::Num(x))),
-            Node::Name(level) => self.look(nodes, legs, node, scope, depth, level.index as u16),
+            Node::Name(level) => self.look(spot, level.index as u16),
             Node::Let(binder) => {
-                let body = nodes[node as usize + 1].end;
-                self.bind(
-                    nodes,
-                    legs,
-                    node,
-                    scope,
-                    depth,
-                    binder.index,
-                    What::Thunk(node + 1, scope),
-                    body,
-                )
+                let bound = What::Thunk(node + 1, spot.scope);
+                let body = code.after_first(node);
+                self.bind(spot, binder.index, bound, body)
             }
-            Node::Call(leg, count) => self.call(
-                nodes,
-                legs,
-                node,
-                scope,
-                depth,
-                legs[leg.index as usize],
-                count,
-            ),
-            _ => self.wait(nodes, legs, node, scope, depth, Phase::First, node + 1),
+            Node::Call(leg, count) => self.call(code, spot, code.leg(leg), count),
+            _ => self.wait(spot, None, node + 1),
         }
     }
 
@@ -264,89 +221,49 @@ impl Machine {
     }
 
     // Binds the parts of a pair, and then goes on with the body.
-    fn split(
-        &mut self,
-        nodes: &[Row],
-        legs: &[Leg],
-        node: u16,
-        scope: u16,
-        depth: u16,
-        binder: u16,
-        parts: (u16, u16),
-        body: u16,
-    ) -> Control
-        requires splits { Splits nodes.now legs.now (tables self.old) binder parts.0 body node scope depth }
+    fn split(&mut self, spot: Spot, binder: u16, parts: (u16, u16), body: u16) -> Control
+        requires sound { Tabled (tables self.old) }
+        requires within { spot.scope ≤ length (tables self.old).bindings }
+        requires deep { spot.depth ≤ 128 }
+        requires first { parts.0 < length (tables self.old).values }
         requires second { parts.1 < length (tables self.old).values }
-        ensures { Leads nodes.now legs.now (tables self.old) (split_act (tables self.old) binder parts.0 parts.1 body scope depth) (tables self.new) result }
+        requires fits { binder < 65535 }
+        ensures { (ns : List Row) (gs : List Leg) → Splits ns gs (tables self.old) binder parts.0 body spot.node spot.scope spot.depth → Leads ns gs (tables self.old) (split_act (tables self.old) binder parts.0 parts.1 body spot.scope spot.depth) (tables self.new) result }
     {
         if self.log.len() == MAX_ENTRIES {
             return Control::Over(Ending::Full);
         }
-        let outer = self.open(binder, What::Kept(parts.0), scope);
+        let outer = self.open(binder, What::Kept(parts.0), spot.scope);
         if self.log.len() == MAX_ENTRIES {
             return Control::Over(Ending::Full);
         }
         let inner = self.open(binder + 1, What::Kept(parts.1), outer);
-        Control::Eval(body, inner, depth + 1)
+        Control::Eval(spot.below(body, inner))
     }
 
     // Goes on with the branch that the value says.
-    fn branch(
-        &mut self,
-        nodes: &[Row],
-        legs: &[Leg],
-        node: u16,
-        scope: u16,
-        depth: u16,
-        binder: u16,
-        v: u16,
-    ) -> Control
-        requires { CasesOn nodes.now legs.now (tables self.old) binder v node scope depth }
-        ensures { Leads nodes.now legs.now (tables self.old) (case_act nodes.now (tables self.old) binder v node scope depth) (tables self.new) result }
+    fn branch(&mut self, code: Code, spot: Spot, binder: u16, v: u16) -> Control
+        requires { CasesOn code.nodes.now code.legs.now (tables self.old) binder v spot.node spot.scope spot.depth }
+        ensures { Leads code.entry.nodes.now code.entry.legs.now (tables self.old) (case_act code.entry.nodes.now (tables self.old) binder v spot.node spot.scope spot.depth) (tables self.new) result }
     {
-        let left = nodes[node as usize + 1].end;
+        let left = code.after_first(spot.node);
         match self.values[v as usize] {
-            Part::InLeft(u) => self.bind(
-                nodes,
-                legs,
-                node,
-                scope,
-                depth,
-                binder,
-                What::Kept(u),
-                left,
-            ),
+            Part::InLeft(u) => self.bind(spot, binder, What::Kept(u), left),
             Part::InRight(u) => {
-                let right = nodes[left as usize].end;
-                self.bind(
-                    nodes,
-                    legs,
-                    node,
-                    scope,
-                    depth,
-                    binder + 1,
-                    What::Kept(u),
-                    right,
-                )
+                let right = code.nodes[left as usize].end;
+                self.bind(spot, binder + 1, What::Kept(u), right)
             }
-            _ => self.bind(nodes, legs, node, scope, depth, binder, What::Kept(0), left),
+            _ => self.bind(spot, binder, What::Kept(UNIT), left),
         }
     }
 
     // Both kids have given their values.
-    fn join(
-        &mut self,
-        nodes: &[Row],
-        legs: &[Leg],
-        node: u16,
-        scope: u16,
-        depth: u16,
-        kind: Node,
-        u: u16,
-        v: u16,
-    ) -> Control
-        requires { Joins nodes.now legs.now (tables self.old) u v node scope depth }
-        ensures { Leads nodes.now legs.now (tables self.old) (join_act (tables self.old) kind u v) (tables self.new) result }
+    fn join(&mut self, kind: Node, u: u16, v: u16) -> Control
+        requires sound { Tabled (tables self.old) }
+        requires one { u < length (tables self.old).values }
+        requires two { v < length (tables self.old).values }
+        requires room { length (tables self.old).values < 2051 }
+        ensures { (ns : List Row) (gs : List Leg) (q s d : ℕ) → Joins ns gs (tables self.old) u v q s d → Leads ns gs (tables self.old) (join_act (tables self.old) kind u v) (tables self.new) result }
     {
         match kind {
             Node::Pair => Control::Return(self.value(Part::Both(u, v))),
@@ -354,88 +271,51 @@ impl Machine {
                 let sum = self.number(u).saturating_add(self.number(v));
                 Control::Return(self.value(Part::Num(sum)))
             }
-            Node::Less => {
-                if self.number(u) < self.number(v) {
-                    Control::Return(1)
-                } else {
-                    Control::Return(2)
-                }
-            }
+            Node::Less => Control::Return(if self.number(u) < self.number(v) {
+                TRUE
+            } else {
+                FALSE
+            }),
             _ => Control::Return(v),
         }
     }
 
     // What a node does once its first kid gave a value.
-    fn after(
-        &mut self,
-        nodes: &[Row],
-        legs: &[Leg],
-        node: u16,
-        scope: u16,
-        depth: u16,
-        v: u16,
-    ) -> Control
-        requires { Given nodes.now legs.now (tables self.old) node scope depth Phase.First v }
-        ensures { Leads nodes.now legs.now (tables self.old) (after_act nodes.now (tables self.old) node scope depth v) (tables self.new) result }
+    fn after(&mut self, code: Code, spot: Spot, v: u16) -> Control
+        requires { Given code.nodes.now code.legs.now (tables self.old) spot.node spot.scope spot.depth None v }
+        ensures { Leads code.entry.nodes.now code.entry.legs.now (tables self.old) (after_act code.entry.nodes.now (tables self.old) spot.node spot.scope spot.depth v) (tables self.new) result }
     {
-        match nodes[node as usize].node {
+        let node = spot.node;
+        match code.nodes[node as usize].node {
             Node::Take(binder) => {
-                let body = nodes[node as usize + 1].end;
-                self.bind(
-                    nodes,
-                    legs,
-                    node,
-                    scope,
-                    depth,
-                    binder.index,
-                    What::Kept(v),
-                    body,
-                )
+                let body = code.after_first(node);
+                self.bind(spot, binder.index, What::Kept(v), body)
             }
             Node::Split(binder) => {
-                let body = nodes[node as usize + 1].end;
+                let body = code.after_first(node);
                 let parts = self.halves(v);
-                self.split(nodes, legs, node, scope, depth, binder.index, parts, body)
+                self.split(spot, binder.index, parts, body)
             }
             Node::Left(_) => Control::Return(self.value(Part::InLeft(v))),
             Node::Right(_) => Control::Return(self.value(Part::InRight(v))),
-            Node::Case(binder) => self.branch(nodes, legs, node, scope, depth, binder.index, v),
-            Node::Pair => {
-                let kid = nodes[node as usize + 1].end;
-                self.wait(nodes, legs, node, scope, depth, Phase::Second(v), kid)
-            }
-            Node::Add => {
-                let kid = nodes[node as usize + 1].end;
-                self.wait(nodes, legs, node, scope, depth, Phase::Second(v), kid)
-            }
-            Node::Less => {
-                let kid = nodes[node as usize + 1].end;
-                self.wait(nodes, legs, node, scope, depth, Phase::Second(v), kid)
+            Node::Case(binder) => self.branch(code, spot, binder.index, v),
+            Node::Pair | Node::Add | Node::Less => {
+                let kid = code.after_first(node);
+                self.wait(spot, Some(v), kid)
             }
             _ => Control::Return(v),
         }
     }
 
     // A frame is given the value that it waits for.
-    pub(super) fn resume(&mut self, nodes: &[Row], legs: &[Leg], frame: Frame, v: u16) -> Control
-        requires { Given nodes.now legs.now (tables self.old) frame.node frame.scope frame.depth frame.phase v }
-        ensures { Leads nodes.now legs.now (tables self.old) (frame_act nodes.now (tables self.old) frame v) (tables self.new) result }
+    pub(super) fn resume(&mut self, code: Code, frame: Frame, v: u16) -> Control
+        requires { Given code.nodes.now code.legs.now (tables self.old) frame.spot.node frame.spot.scope frame.spot.depth frame.first v }
+        ensures { Leads code.entry.nodes.now code.entry.legs.now (tables self.old) (frame_act code.entry.nodes.now (tables self.old) frame v) (tables self.new) result }
     {
-        match frame.phase {
-            Phase::First => self.after(nodes, legs, frame.node, frame.scope, frame.depth, v),
-            Phase::Second(u) => {
-                let kind = nodes[frame.node as usize].node;
-                self.join(
-                    nodes,
-                    legs,
-                    frame.node,
-                    frame.scope,
-                    frame.depth,
-                    kind,
-                    u,
-                    v,
-                )
-            }
+        let spot = frame.spot;
+        match frame.first {
+            None => self.after(code, spot, v),
+            Some(u) => self.join(code.nodes[spot.node as usize].node, u, v),
         }
     }
 }

@@ -1,4 +1,4 @@
-use Rattle.std.proofs.Common.{List, sym, refl, ◌∙◌, subst}
+use Rattle.std.proofs.Common.{List, sym, refl, ◌∙◌, subst₂}
 use Rattle.plan.specs.declared.Row.{Row}
 use Rattle.plan.specs.declared.Leg.{Leg}
 use Rattle.flight.specs.Tables.{tables}
@@ -11,20 +11,21 @@ use Rattle.flight.proofs.flight.Flight.advance.Goals as goal
 
 pub fly-requires : goal.fly-requires
 fly-requires g c =
-    let q = c.args.self.now.plan in
-    let m = c.args.self.now.machine in
-    subst (λ (ns : List Row). Ready ns c.as_slice-2.result.now (tables m) m.control) (sym c.as_slice.ensures.value)
-    (subst (λ (gs : List Leg). Ready (rows_of q) gs (tables m) m.control) (sym c.as_slice-2.ensures.value)
-    (ready_of (rows_of q) (legs_of q) (tables m) m.control c.args.self.now.ready))
+    let s = c.args.self.now in
+    let m = s.machine in
+    let e = c.code_of.ensures in
+    subst₂ (λ (ns : List Row) (gs : List Leg). Ready ns gs (tables m) m.control) (sym e.nodes) (sym e.legs)
+    (ready_of (rows_of s.plan) (legs_of s.plan) (tables m) m.control s.ready)
 
 pub invariant_of-self : goal.invariant_of-self
 invariant_of-self g c =
     let s = c.args.self.now in
-    let m = c.fly.new.self in record {
+    let m = c.fly.new.self in
+    let e = c.code_of.ensures in
+    record {
       legs = s.legs;
       main = s.main;
-      ready = ∣ subst (λ (ns : List Row). Ready ns (legs_of s.plan) (tables m) m.control) c.as_slice.ensures.value
-          (subst (λ (gs : List Leg). Ready c.as_slice.result.now gs (tables m) m.control) c.as_slice-2.ensures.value c.fly.ensures.ready) ∣₁;
+      ready = ∣ subst₂ (λ (ns : List Row) (gs : List Leg). Ready ns gs (tables m) m.control) e.nodes e.legs c.fly.ensures.ready ∣₁;
     }
 
 pub returns : goal.returns
@@ -35,9 +36,9 @@ returns g c =
     let m = c.args.self.now.machine in
     let w = c.fly.new.self in
     let n = c.args.n in
+    let e = c.code_of.ensures in
     let on : Flies (rows_of q) (legs_of q) n y (tables m) m.control z (tables w) w.control
-    = subst (λ (ns : List Row). Flies ns (legs_of q) n y (tables m) m.control z (tables w) w.control) c.as_slice.ensures.value
-    (subst (λ (gs : List Leg). Flies c.as_slice.result.now gs n y (tables m) m.control z (tables w) w.control) c.as_slice-2.ensures.value c.fly.ensures.flies) in
+    = subst₂ (λ (ns : List Row) (gs : List Leg). Flies ns gs n y (tables m) m.control z (tables w) w.control) e.nodes e.legs c.fly.ensures.flies in
     record {
       plan = refl;
       flies = λ p y₀ N A. (

@@ -1,26 +1,30 @@
-use Rattle.std.proofs.Common.{◌≡◌, length, ◌∙◌, arith, rules}
-use Rattle.std.proofs.lemmas.List.{length-take}
-use Rattle.plan.specs.Plans.{params_of}
-use Rattle.flight.specs.Tables.{tables}
+use Rattle.std.proofs.Common.{ℕ, ◌<◌, ◌≤◌, sym, subst}
+use Rattle.flight.specs.Tables.{tables, the_spot}
+use Rattle.flight.specs.Sound.{Ready}
+use Rattle.flight.specs.Spelled.{Begun}
+use Rattle.flight.specs.declared.machine.Control.TheVariants.{Eval}
 use Rattle.flight.proofs.Spelled.{store_start, store_more, storing_at, begin_ready, begin_stands}
 use Rattle.flight.proofs.machine.Machine.clear.Goals as goal
 
 pub loop-i-init : goal.loop-i-init
 loop-i-init c =
-    storing_at c.args.nodes.now c.args.legs.now c.args.main _ _ 0 c.reset.ensures (store_start c.args.nodes.now c.args.legs.now c.args.main c.requires)
+    storing_at c.args.code.nodes.now c.args.code.legs.now c.args.main.now _ _ 0 c.reset.ensures (store_start c.args.code.nodes.now c.args.code.legs.now c.args.main.now c.requires)
 
 pub loop-i-preserved : goal.loop-i-preserved
 loop-i-preserved c =
-    storing_at c.args.nodes.now c.args.legs.now c.args.main _ _ _ c.open.ensures.tables
-    (store_more c.args.nodes.now c.args.legs.now c.args.main (tables c.loop-i.self) c.loop-i.i c.loop-i.invariant c.loop-i-test.true)
+    storing_at c.args.code.nodes.now c.args.code.legs.now c.args.main.now _ _ _ c.open.ensures.tables
+    (store_more c.args.code.nodes.now c.args.code.legs.now c.args.main.now (tables c.loop-i.self) c.loop-i.i c.loop-i.invariant
+    (subst (λ (n : ℕ). c.loop-i.i < n) c.len-count.ensures.value c.loop-i-test.true))
 
 pub returns : goal.returns
 returns c =
-    let g = c.args.main in
-    let all : length g.params ≡ 8 = search rules in
-    let few = c.requires.few in
-    let counted : length (params_of g) ≡ g.count = length-take g.count g.params ∙ omega arith in
+    let ns = c.args.code.nodes.now in
+    let gs = c.args.code.legs.now in
+    let main = c.args.main.now in
+    let t = tables c.loop-i.self in
+    let e = c.len-count.ensures.value in
+    let all = subst (λ (n : ℕ). n ≤ c.loop-i.i) e c.loop-i-test.false in
     record {
-      ready = begin_ready c.args.nodes.now c.args.legs.now g (tables c.loop-i.self) c.loop-i.i c.loop-i.invariant c.loop-i-test.false counted;
-      begun = begin_stands c.args.nodes.now c.args.legs.now g (tables c.loop-i.self) c.loop-i.i c.loop-i.invariant c.loop-i-test.false counted;
+      ready = subst (λ (n : ℕ). Ready ns gs t (Eval (the_spot main.first n 1))) (sym e) (begin_ready ns gs main t c.loop-i.i c.loop-i.invariant all);
+      begun = subst (λ (n : ℕ). Begun ns gs main t (Eval (the_spot main.first n 1))) (sym e) (begin_stands ns gs main t c.loop-i.i c.loop-i.invariant all);
     }

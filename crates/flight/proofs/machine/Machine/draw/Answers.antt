@@ -6,16 +6,16 @@ use Rattle.flight.proofs.Step.{draw_none, draw_some, steps_at}
 use Rattle.flight.proofs.machine.Machine.draw.Goals as goal
 
 pub returns-in-None : goal.returns-in-None
-returns-in-None g c =
+returns-in-None g c ns gs R =
     let h = c.in-None.ensures.draws in
-    draw_none c.args.nodes.now c.args.legs.now (tables c.args.self.now) c.args.binder c.args.store c.requires (g.B.Bay.readings c.args.bay.now) (g.B.Bay.readings c.draw.new.self) h.0 h.1
+    draw_none ns gs (tables c.args.self.now) c.args.binder c.args.store R (g.B.Bay.readings c.args.bay.now) (g.B.Bay.readings c.draw.new.self) h.0 h.1
 
 pub returns-in-Some : goal.returns-in-Some
-returns-in-Some g c =
+returns-in-Some g c ns gs R =
     let h = c.in-Some.ensures.draws in
     let fits : c.in-Some.x < 4294967296 = search rules in
     let t = tables c.args.self.now in
-    steps_at c.args.nodes.now c.args.legs.now _ t _ _ _ _ _ _
-    (c.value.ensures.tables ∙ ap (valued (Num c.in-Some.x)) c.note.ensures)
-    (ap Return (c.value.ensures.place ∙ ap (λ (x : Tables). length x.values) c.note.ensures))
-    (draw_some c.args.nodes.now c.args.legs.now (tables c.args.self.now) c.args.binder c.args.store c.requires (g.B.Bay.readings c.args.bay.now) (g.B.Bay.readings c.draw.new.self) c.in-Some.x fits h.0 h.1)
+    steps_at ns gs _ t _ _ _ _ _ _
+    (c.value.ensures.tables ∙ ap (valued (Num c.in-Some.x)) c.note_lookup.ensures)
+    (ap Return (c.value.ensures.place ∙ ap (λ (x : Tables). length x.values) c.note_lookup.ensures))
+    (draw_some ns gs (tables c.args.self.now) c.args.binder c.args.store R (g.B.Bay.readings c.args.bay.now) (g.B.Bay.readings c.draw.new.self) c.in-Some.x fits h.0 h.1)

@@ -5,12 +5,12 @@ use Rattle.flight.proofs.machine.Machine.fly.Goals as goal
 
 pub loop-self-init : goal.loop-self-init
 loop-self-init g c =
-    (refl, fly_start c.args.nodes.now c.args.legs.now c.args.n (g.B.Bay.readings c.args.bay.now) (tables c.args.self.now) c.args.self.now.control c.requires)
+    (refl, fly_start c.args.code.nodes.now c.args.code.legs.now c.args.n (g.B.Bay.readings c.args.bay.now) (tables c.args.self.now) c.args.self.now.control c.requires)
 
 pub loop-self-preserved : goal.loop-self-preserved
 loop-self-preserved g c = (
   refl,
-  fly_again c.args.nodes.now c.args.legs.now c.args.n (g.B.Bay.readings c.args.bay.now) (tables c.args.self.now) c.args.self.now.control
+  fly_again c.args.code.nodes.now c.args.code.legs.now c.args.n (g.B.Bay.readings c.args.bay.now) (tables c.args.self.now) c.args.self.now.control
       (g.B.Bay.readings c.loop-self.bay) (tables c.loop-self.self) c.loop-self.control _ _ _ c.loop-self.invariant.1 (sym c.loop-self-test.ensures) c.step-control.ensures,
 )
 
@@ -23,7 +23,7 @@ returns g c =
     let F = c.loop-self.invariant.1 in
     let lo = F.least in
     let hi = F.most in
-    let f = fly_done c.args.nodes.now c.args.legs.now c.args.n (g.B.Bay.readings c.args.bay.now) (tables c.args.self.now) c.args.self.now.control
+    let f = fly_done c.args.code.nodes.now c.args.code.legs.now c.args.n (g.B.Bay.readings c.args.bay.now) (tables c.args.self.now) c.args.self.now.control
     (g.B.Bay.readings c.loop-self.bay) (tables c.loop-self.self) c.loop-self.control F (sym c.loop-self-test.ensures) in
     record {
       ready = F.ready;

@@ -7,31 +7,31 @@ use Rattle.flight.proofs.Giving.{join_pair, join_add, join_less, join_more, join
 use Rattle.flight.proofs.machine.Machine.join.Goals as goal
 
 pub returns-in-Pair : goal.returns-in-Pair
-returns-in-Pair c =
-    join_as c.args.nodes.now c.args.legs.now (tables c.args.self.now) c.args.node c.args.scope c.args.depth c.requires.poised _ Pair c.args.u c.args.v c.in-Pair.is _ _
-    (leads_at c.args.nodes.now c.args.legs.now (tables c.args.self.now) _ _ _ _ _ c.value.ensures.tables (ap Return c.value.ensures.place)
-    (join_pair c.args.nodes.now c.args.legs.now (tables c.args.self.now) c.args.node c.args.scope c.args.depth c.requires.poised c.args.u c.args.v c.requires.one c.requires.two))
+returns-in-Pair c ns gs q s d J =
+    join_as ns gs (tables c.args.self.now) q s d J.poised _ Pair c.args.u c.args.v c.in-Pair.is _ _
+    (leads_at ns gs (tables c.args.self.now) _ _ _ _ _ c.value.ensures.tables (ap Return c.value.ensures.place)
+    (join_pair ns gs (tables c.args.self.now) q s d J.poised c.args.u c.args.v c.requires.one c.requires.two))
 
 pub returns-in-Add : goal.returns-in-Add
-returns-in-Add c =
-    join_as c.args.nodes.now c.args.legs.now (tables c.args.self.now) c.args.node c.args.scope c.args.depth c.requires.poised _ Add c.args.u c.args.v c.in-Add.is _ _
-    (leads_at c.args.nodes.now c.args.legs.now (tables c.args.self.now) _ _ _ _ _ c.value-in-Add.ensures.tables (ap Return c.value-in-Add.ensures.place)
-    (join_add c.args.nodes.now c.args.legs.now (tables c.args.self.now) c.args.node c.args.scope c.args.depth c.requires.poised c.args.u c.args.v c.saturating_add-sum.result
+returns-in-Add c ns gs q s d J =
+    join_as ns gs (tables c.args.self.now) q s d J.poised _ Add c.args.u c.args.v c.in-Add.is _ _
+    (leads_at ns gs (tables c.args.self.now) _ _ _ _ _ c.value-in-Add.ensures.tables (ap Return c.value-in-Add.ensures.place)
+    (join_add ns gs (tables c.args.self.now) q s d J.poised c.args.u c.args.v c.saturating_add-sum.result
     (c.saturating_add-sum.ensures ∙ ap₂ (λ (x y : ℕ). min (x + y) 4294967295) c.number.ensures c.number-in-Add.ensures)))
 
 pub returns-then-number : goal.returns-then-number
-returns-then-number c =
+returns-then-number c ns gs q s d J =
     let a = c.number-in-Less.ensures in
     let b = c.number-in-Less-2.ensures in
     let t = c.if-number.true in
-    join_as c.args.nodes.now c.args.legs.now (tables c.args.self.now) c.args.node c.args.scope c.args.depth c.requires.poised _ Less c.args.u c.args.v c.in-Less.is _ _ (join_less c.args.nodes.now c.args.legs.now (tables c.args.self.now) c.args.node c.args.scope c.args.depth c.requires.poised c.args.u c.args.v (omega arith))
+    join_as ns gs (tables c.args.self.now) q s d J.poised _ Less c.args.u c.args.v c.in-Less.is _ _ (join_less ns gs (tables c.args.self.now) q s d J.poised c.args.u c.args.v (omega arith))
 
 pub returns-else-number : goal.returns-else-number
-returns-else-number c =
+returns-else-number c ns gs q s d J =
     let a = c.number-in-Less.ensures in
     let b = c.number-in-Less-2.ensures in
     let t = c.if-number.false in
-    join_as c.args.nodes.now c.args.legs.now (tables c.args.self.now) c.args.node c.args.scope c.args.depth c.requires.poised _ Less c.args.u c.args.v c.in-Less.is _ _ (join_more c.args.nodes.now c.args.legs.now (tables c.args.self.now) c.args.node c.args.scope c.args.depth c.requires.poised c.args.u c.args.v (omega arith))
+    join_as ns gs (tables c.args.self.now) q s d J.poised _ Less c.args.u c.args.v c.in-Less.is _ _ (join_more ns gs (tables c.args.self.now) q s d J.poised c.args.u c.args.v (omega arith))
 
 pub returns-in_default : goal.returns-in_default
-returns-in_default c = join_rest c.args.nodes.now c.args.legs.now (tables c.args.self.now) c.args.node c.args.scope c.args.depth c.requires.poised c.args.kind c.args.u c.args.v c.requires.two c.in_default.not-Pair c.in_default.not-Add c.in_default.not-Less
+returns-in_default c ns gs q s d J = join_rest ns gs (tables c.args.self.now) q s d J.poised c.args.kind c.args.u c.args.v c.requires.two c.in_default.not-Pair c.in_default.not-Add c.in_default.not-Less

@@ -1,6 +1,6 @@
 use Rattle.std.proofs.Common.{◌≡◌, ℕ, ◌+◌, ◌<◌, length, sym, refl, ap, ◌∙◌, subst, ap₂, arith, rules}
 use Rattle.std.proofs.lemmas.List.{length_push}
-use Rattle.flight.specs.Tables.{Tables, tables, opened}
+use Rattle.flight.specs.Tables.{Tables, tables, the_spot, opened}
 use Rattle.flight.specs.Sound.{Leads, Act}
 use Rattle.flight.specs.declared.machine.What.TheVariants.{Kept}
 use Rattle.flight.specs.declared.machine.Control.TheVariants.{Eval}
@@ -10,59 +10,59 @@ use Rattle.flight.proofs.Giving.{split_none, split_half, split_both}
 use Rattle.flight.proofs.machine.Machine.split.Goals as goal
 
 pub returns-then-len-eq-MAX_ENTRIES : goal.returns-then-len-eq-MAX_ENTRIES
-returns-then-len-eq-MAX_ENTRIES c =
+returns-then-len-eq-MAX_ENTRIES c ns gs H =
     let t = tables c.args.self.now in
     let full : length t.log ≡ 4096 = search rules in
-    split_none c.args.nodes.now c.args.legs.now (tables c.args.self.now) c.args.node c.args.scope c.args.depth c.requires.splits.poised c.args.binder c.args.parts.0 c.args.parts.1 c.args.body c.requires.splits.value c.requires.second c.requires.splits.body full
+    split_none ns gs (tables c.args.self.now) c.args.spot.node c.args.spot.scope c.args.spot.depth H.poised c.args.binder c.args.parts.0 c.args.parts.1 c.args.body H.value c.requires.second H.body full
 
 pub returns-then-len-eq-MAX_ENTRIES-2 : goal.returns-then-len-eq-MAX_ENTRIES-2
-returns-then-len-eq-MAX_ENTRIES-2 c =
+returns-then-len-eq-MAX_ENTRIES-2 c ns gs H =
     let t = tables c.args.self.now in
-    let few = c.requires.splits.poised.sound.log in
+    let few = H.poised.sound.log in
     let len : c.len.result ≡ length t.log = search rules in
     let lt : length t.log < 4096 = omega arith in
     let e = c.open-outer.ensures.tables in
     let full : length (tables c.open-outer.new.self).log ≡ 4096 = search rules in
-    leads_at c.args.nodes.now c.args.legs.now (tables c.args.self.now) _ _ _ _ _ e refl
-    (split_half c.args.nodes.now c.args.legs.now (tables c.args.self.now) c.args.node c.args.scope c.args.depth c.requires.splits.poised c.args.binder c.args.parts.0 c.args.parts.1 c.args.body c.requires.splits.value c.requires.second c.requires.splits.body lt
+    leads_at ns gs (tables c.args.self.now) _ _ _ _ _ e refl
+    (split_half ns gs (tables c.args.self.now) c.args.spot.node c.args.spot.scope c.args.spot.depth H.poised c.args.binder c.args.parts.0 c.args.parts.1 c.args.body H.value c.requires.second H.body lt
     (ap (λ (x : Tables). length x.log) (sym e) ∙ full))
 
 pub open-inner-requires : goal.open-inner-requires
 open-inner-requires c =
     let t = tables c.args.self.now in
     let u = tables c.open-outer.new.self in
-    let P = c.requires.splits.poised in
-    let few = P.sound.log in
+    let W = c.requires.sound in
+    let few = W.sound.log in
     let len : c.len.result ≡ length t.log = search rules in
     let lt : length t.log < 4096 = omega arith in
     let e = c.open-outer.ensures.tables in
     let len₂ : c.len-2.result ≡ length u.log = search rules in
-    let S = subst (λ (x : Tables). Rattle.flight.specs.Sound.Sound c.args.nodes.now P.lv x) (sym e)
-    (sound_opened c.args.nodes.now P.lv t c.args.binder (Kept c.args.parts.0) c.args.scope P.sound lt P.scope c.requires.splits.value) in
+    let S = subst (λ (x : Tables). Rattle.flight.specs.Sound.Sound W.ns W.lv x) (sym e)
+    (sound_opened W.ns W.lv t c.args.binder (Kept c.args.parts.0) c.args.spot.scope W.sound lt c.requires.within c.requires.first) in
     let few₂ = S.log in
     let b : length u.bindings ≡ length t.bindings + 1 = ap (λ (x : Tables). length x.bindings) e ∙ length_push t.bindings _ in
     let sc = c.open-outer.ensures.scope in
-    let low = size_low c.args.nodes.now P.lv u S c.open-outer.result (omega arith) in
+    let low = size_low W.ns W.lv u S c.open-outer.result (omega arith) in
     let md = S.made in
     record { room = omega arith; made = md; within = omega arith; fits = omega arith }
 
 pub returns : goal.returns
-returns c =
+returns c ns gs H =
     let t = tables c.args.self.now in
     let u = tables c.open-outer.new.self in
-    let few = c.requires.splits.poised.sound.log in
+    let few = H.poised.sound.log in
     let len : c.len.result ≡ length t.log = search rules in
     let lt : length t.log < 4096 = omega arith in
     let e = c.open-outer.ensures.tables in
-    let P = c.requires.splits.poised in
-    let S = subst (λ (x : Tables). Rattle.flight.specs.Sound.Sound c.args.nodes.now P.lv x) (sym e)
-    (sound_opened c.args.nodes.now P.lv t c.args.binder (Kept c.args.parts.0) c.args.scope P.sound lt P.scope c.requires.splits.value) in
+    let P = H.poised in
+    let S = subst (λ (x : Tables). Rattle.flight.specs.Sound.Sound ns P.lv x) (sym e)
+    (sound_opened ns P.lv t c.args.binder (Kept c.args.parts.0) c.args.spot.scope P.sound lt P.scope H.value) in
     let few₂ = S.log in
     let len₂ : c.len-2.result ≡ length u.log = search rules in
     let lt₂ : length u.log < 4096 = omega arith in
     let k = c.args.binder in
-    leads_at c.args.nodes.now c.args.legs.now (tables c.args.self.now) _ _ _ _ _
+    leads_at ns gs (tables c.args.self.now) _ _ _ _ _
     (c.open-inner.ensures.tables ∙ ap₂ (λ (i : ℕ) (x : Tables). opened (k + 1) (Kept c.args.parts.1) i x) c.open-outer.ensures.scope e)
-    (ap (λ (i : ℕ). Eval c.args.body i (c.args.depth + 1)) (c.open-inner.ensures.scope ∙ ap (λ (x : Tables). length x.bindings + 1) e))
-    (split_both c.args.nodes.now c.args.legs.now (tables c.args.self.now) c.args.node c.args.scope c.args.depth c.requires.splits.poised k c.args.parts.0 c.args.parts.1 c.args.body c.requires.splits.value c.requires.second c.requires.splits.body lt
+    (ap Eval (c.below.ensures ∙ ap (λ (i : ℕ). the_spot c.args.body i (c.args.spot.depth + 1)) (c.open-inner.ensures.scope ∙ ap (λ (x : Tables). length x.bindings + 1) e)))
+    (split_both ns gs (tables c.args.self.now) c.args.spot.node c.args.spot.scope c.args.spot.depth H.poised k c.args.parts.0 c.args.parts.1 c.args.body H.value c.requires.second H.body lt
     (subst (λ (x : Tables). length x.log < 4096) e lt₂))
