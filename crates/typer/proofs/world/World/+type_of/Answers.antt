@@ -2,11 +2,11 @@ use Rattle.std.proofs.Common.{◌≡◌, ◌+◌, ◌≤◌, [], ◌∷◌, ◌+
 use Rattle.std.proofs.lemmas.List.{length-reverse, get_or_read}
 use Rattle.std.proofs.lemmas.Result.{err_from_is_err_and}
 use Rattle.plan.specs.Kinds.{kids_of}
-use Rattle.plan.specs.Trees.{flat}
+use Rattle.plan.specs.Trees.{head, flat}
 use Rattle.plan.specs.Table.{term_at, row_at, node_size, no_row}
 use Rattle.plan.proofs.Stacks.{flat_all}
 use Rattle.plan.proofs.Kids.{kids_counted}
-use Rattle.typer.specs.Walk.{world_in, scope_of}
+use Rattle.typer.specs.Walk.{world_in, scope_of, node_type}
 use Rattle.typer.specs.Levels.{levels}
 use Rattle.typer.specs.Depths.{FewKids}
 use Rattle.typer.proofs.Walking.{Walking, kid_scope_of, node_type_of, begins, next, no_scope, no_type, goes_on, none_left}
@@ -139,10 +139,12 @@ returns-clause-answer t c =
     let i = c.args.at in
     let e = term_at ns i in
     let w = world_in c.args.self.now.plan.now in
+    let Γ = scope_of c.args.scope.now.items in
     let v = c.loop.invariant in
     let left = c.loop-test.false in
-    let h = none_left w (scope_of c.args.scope.now.items) ns i e c.loop.kids.items c.loop.place c.push_reserved.new.self.items c.loop.levels.items v.5 (omega (arith, v.3, v.1)) in
-    c.node_type.ensures ∙ node_type_of w i v.0 (c.as_slice-2.ensures.value ∙ v.2) c.as_slice-3.ensures.value ∙ sym h.checks
+    let h = none_left w Γ ns i e c.loop.kids.items c.loop.place c.push_reserved.new.self.items c.loop.levels.items v.5 (omega (arith, v.3, v.1)) in
+    let typed : c.node_type.result ≡ node_type w Γ i (head e) c.loop.kids.items = c.node_type.ensures ∙ node_type_of w i v.0 (c.as_slice-2.ensures.value ∙ v.2) c.as_slice-3.ensures.value in
+    typed ∙ sym h.checks
 
 made_any : {X F P : Type 0} (r : Result X F) → P → IfOk r (λ _. P)
 made_any (Ok x) h = h
