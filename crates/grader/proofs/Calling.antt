@@ -1,7 +1,7 @@
 -- The arguments of a call, from the last to the first. Assumes nothing.
-use Rattle.std.proofs.Common.{◌≡◌, ℕ, zero, suc, ◌+◌, ◌<◌, List, [], ◌∷◌, ◌++◌, length, get_or, take, drop, sym, ap, ◌∙◌, ap₂, append_assoc, append-nil, add-one, arith}
+use Rattle.std.proofs.Common.{◌≡◌, ℕ, zero, suc, ◌+◌, ◌-◌, ◌<◌, ◌≤◌, List, [], ◌∷◌, ◌++◌, length, get_or, take, drop, reverse, sym, refl, ap, ◌∙◌, subst, ap₂, append_assoc, append-nil, add-one, arith, length-append}
 use lib.ListN.{length-replicate, length-map}
-use Rattle.std.proofs.lemmas.List.{take_more, drop_more, take_all, drop_all}
+use Rattle.std.proofs.lemmas.List.{take_more, drop_more, take_all, drop_all, length-reverse, get_or-reverse, get_or_default}
 use Rattle.scales.specs.Laws.{Ops}
 use Rattle.scales.specs.Rows.{row_plus, row_times, row_zero}
 use Rattle.scales.proofs.RowLists.{length_zip}
@@ -11,6 +11,11 @@ module _ {G : Type 0} where
   pub concat_push : (us : List (List G)) (u : List G) → concat (us ++ (u ∷ [])) ≡ concat us ++ u
   concat_push [] u = append-nil u
   concat_push (v ∷ us) u = ap (λ l. v ++ l) (concat_push us u) ∙ sym (append_assoc v (concat us) u)
+
+-- the context of a call asks for the grades of as many parameters as it has arguments
+pub call_same : {G : Type 0} (o : Ops G) (r r' : ℕ → G) (n j : ℕ) (us : List (List G)) → ((i : ℕ) → j ≤ i → i < j + length us → r i ≡ r' i) → call_row o r j n us ≡ call_row o r' j n us
+call_same o r r' n j [] h = refl
+call_same o r r' n j (u ∷ us) h = ap₂ (λ x v. row_plus o (row_times o x u) v) (h j (omega arith) (omega arith)) (call_same o r r' n (suc j) us (λ i le lt. h i (omega arith) (omega arith)))
 
 module _ {G : Type 0} (o : Ops G) (r : ℕ → G) (n c : ℕ) where
   -- On the stack `start`, which ends with a context of zeros, the arguments from the j-th on have been taken in; `now` is what is held.
@@ -53,7 +58,7 @@ module _ {G : Type 0} (o : Ops G) (r : ℕ → G) (n c : ℕ) where
       ap (λ l. base ++ (l ++ sum)) (ap concat (take_more us i [] lt) ∙ concat_push (take i us) (get_or us i []))
       ∙ ap (λ l. base ++ l) (append_assoc (concat (take i us)) (get_or us i []) sum) ∙ sym (append_assoc base (concat (take i us)) (get_or us i [] ++ sum))
 
-  pub next : (start now : List G) (i : ℕ) → i < c → Calling start (i + 1) now → Next now i
+  next : (start now : List G) (i : ℕ) → i < c → Calling start (i + 1) now → Next now i
   next start now i lt h =
       let s = h.some in
       let k = s.2 in
@@ -68,6 +73,14 @@ module _ {G : Type 0} (o : Ops G) (r : ℕ → G) (n c : ℕ) where
         wide = k.wide i lt;
         sum_wide = call_long (i + 1) (drop (i + 1) us) (rest_wide us (i + 1) w);
       }
+
+  pub deep : (start now : List G) (i : ℕ) → i < c → Calling start (i + 1) now → n + n ≤ length now
+  deep start now i lt h =
+      let x = next start now i lt h in
+      let long = ap length x.is ∙ length-append x.front (x.argument ++ x.sum) ∙ ap (λ m. length x.front + m) (length-append x.argument x.sum) in
+      let a = x.wide in
+      let b = x.sum_wide in
+      omega arith
 
   pub goes_on : (start now later : List G) (i : ℕ) → i < c → Calling start (i + 1) now
       → ((h a b : List G) → length a ≡ n → length b ≡ n → now ≡ h ++ (a ++ b) → later ≡ h ++ row_plus o (row_times o (r i) a) b) → Calling start i later
@@ -85,5 +98,45 @@ module _ {G : Type 0} (o : Ops G) (r : ℕ → G) (n c : ℕ) where
     some = h.some;
   }
 
-  pub ends : (before start now : List G) → start ≡ before ++ row_zero o n → Calling start 0 now → (k : RowsOn before c (λ i. n)) → now ≡ k.base ++ call_row o r 0 n k.rows
-  ends before start now e h k = h.all before e k
+-- The grades xs are taken from the last on: x comes after m others.
+module _ {G : Type 0} (o : Ops G) (n : ℕ) (xs : List G) where
+  abbrev pub Taken : List G → ℕ → List G → Type 0
+  Taken = Calling o (λ j. get_or xs j o.zero) n (length xs)
+
+  abbrev IsNext : ℕ → G → Type 0
+  IsNext m x = (m < length (reverse xs)) × (x ≡ get_or (reverse xs) m x)
+
+  module _ (start now : List G) (m : ℕ) (x : G) (turn : IsNext m x) (h : Taken start (length xs - m) now) where
+    abbrev i : ℕ
+    i = length xs - 1 - m
+
+    below_end : i < length xs
+    below_end = let long = length-reverse xs in let lt = turn.0 in omega arith
+
+    before : Taken start (i + 1) now
+    before = let long = length-reverse xs in let lt = turn.0 in subst (λ j. Taken start j now) (let e : length xs - m ≡ i + 1 = omega arith in e) h
+
+    x_is : x ≡ get_or xs i o.zero
+    x_is =
+        let long = length-reverse xs in
+        let lt = turn.0 in
+        let at = below_end in
+        turn.1 ∙ get_or-reverse xs m x (omega arith) ∙ get_or_default xs i x o.zero at
+
+    pub turn_deep : n + n ≤ length now
+    turn_deep = deep o (λ j. get_or xs j o.zero) n (length xs) start now i below_end before
+
+    pub turn_on : (later : List G) (k : ℕ) → k ≡ m + 1
+        → ((f a b : List G) → length a ≡ n → length b ≡ n → now ≡ f ++ (a ++ b) → later ≡ f ++ row_plus o (row_times o x a) b) → Taken start (length xs - k) later
+    turn_on later k k_is step =
+        subst (λ j. Taken start j later) (let e : i ≡ length xs - k = omega arith in e)
+        (goes_on o (λ j. get_or xs j o.zero) n (length xs) start now later i below_end before
+        (λ f a b ea eb is. step f a b ea eb is ∙ ap (λ y. f ++ row_plus o (row_times o y a) b) x_is))
+
+  pub taken_all : (before start now : List G) (m : ℕ) → m ≡ length (reverse xs) → start ≡ before ++ row_zero o n → Taken start (length xs - m) now
+      → (k : RowsOn before (length xs) (λ i. n)) → now ≡ k.base ++ call_row o (λ j. get_or xs j o.zero) 0 n k.rows
+  taken_all before start now m all e h k =
+      let long = length-reverse xs in
+      let none : length xs - m ≡ 0 = omega arith in
+      let done = subst (λ j. Taken start j now) none h in
+      done.all before e k

@@ -1,18 +1,22 @@
 -- A node's kids' contexts become its own: each kind of node. Assumes nothing.
-use Rattle.std.proofs.Common.{◌≡◌, ℕ, zero, suc, ◌+◌, ◌<◌, ◌≤◌, List, [], ◌∷◌, ◌++◌, length, get_or, take, drop, set, sym, refl, ap, ◌∙◌, ap₂, append_assoc, append-nil, add-one, arith, length-append}
+use Rattle.std.proofs.Common.{◌≡◌, ℕ, zero, suc, ◌+◌, ◌-◌, ◌<◌, ◌≤◌, List, [], ◌∷◌, ◌++◌, length, get_or, take, drop, set, sym, refl, ap, ◌∙◌, subst, ap₂, append_assoc, append-nil, add-one, arith, length-append, length-drop}
 use lib.ListN.{length-map}
-use Rattle.std.proofs.lemmas.List.{length-take-le, set_split, get_or_append_left, take-append-drop}
+use Rattle.std.proofs.lemmas.List.{length-take-le, get_or-take, get_or-drop, set_split, get_or_append_left, take-append-drop}
 use Rattle.scales.specs.Laws.{Ops}
 use Rattle.scales.specs.Rows.{row_plus, row_join, row_times}
 use Rattle.scales.proofs.RowLists.{length_zip}
 use Rattle.plan.specs.declared.Node.{Node}
 use Rattle.plan.specs.declared.Binder.{Binder}
 use Rattle.plan.specs.declared.LegId.{LegId}
-use Rattle.plan.specs.declared.Node.TheVariants.{Let, Split, Case, Call}
-use Rattle.plan.specs.Kinds.{kids_of}
-use Rattle.grader.specs.declared.contexts.Contexts.{Contexts}
-use Rattle.grader.specs.Stack.{held, room}
-use Rattle.grader.specs.Walk.{RowsOn, KidsOn, Closed, concat, kid_row, kid_width, put, node_row, own_grades}
+use Rattle.plan.specs.declared.Node.TheVariants.{Let, Take, Split, Case, Call}
+use Rattle.plan.specs.Kinds.{kids_of, binders}
+use Rattle.grader.proofs.Calling.{call_same}
+use Rattle.grader.specs.Walk.{RowsOn, KidsOn, Closed, concat, kid_width, put, node_row, own_grades, call_row}
+
+-- how long c contexts are together
+abbrev pub widths : (ℕ → ℕ) → ℕ → ℕ
+widths w zero = 0
+widths w (suc c) = w 0 + widths (λ k. w (suc k)) c
 
 module _ {G : Type 0} where
   -- ---- writing answers
@@ -36,71 +40,55 @@ module _ {G : Type 0} where
 
   -- ---- so many contexts on top
 
-  pub record Two (held base : List G) (us : List (List G)) (n m : ℕ) : Type 0 where
+  concat_long : (us : List (List G)) (w : ℕ → ℕ) → ((k : ℕ) → k < length us → length (get_or us k []) ≡ w k) → length (concat us) ≡ widths w (length us)
+  concat_long [] w h = refl
+  concat_long (u ∷ us) w h = length-append u (concat us) ∙ ap₂ (λ a b. a + b) (h 0 (omega arith)) (concat_long us (λ k. w (suc k)) (λ k lt. h (suc k) (omega arith)))
+
+  -- how deep the stack is below a node of a known kind
+  pub deep : {held : List G} {node kind : Node} (n : ℕ) → KidsOn held node n → node ≡ kind → widths (kid_width n kind) (kids_of kind) ≤ length held
+  deep {held} {node} n k e =
+      let count = k.count in
+      let all = concat_long k.rows (kid_width n node) (λ i lt. k.wide i (omega arith)) ∙ ap (widths (kid_width n node)) k.count in
+      let whole = ap length k.is ∙ length-append k.base (concat k.rows) in
+      subst (λ o. widths (kid_width n o) (kids_of o) ≤ length held) e (let z : widths (kid_width n node) (kids_of node) ≤ length held = omega arith in z)
+
+  record Two (held base : List G) (us : List (List G)) (n m : ℕ) : Type 0 where
     pub a : List G
     pub b : List G
     pub are : us ≡ a ∷ b ∷ []
     pub wide_a : length a ≡ n
     pub wide_b : length b ≡ m
     pub is : held ≡ base ++ (a ++ b)
-    pub long : length held ≡ length base + (n + m)
 
-  pub two : (held : List G) (w : ℕ → ℕ) {c : ℕ} → c ≡ 2 → (k : RowsOn held c w) → Two held k.base k.rows (w 0) (w 1)
-  two held w ec k = go k.rows (k.count ∙ ec) (λ i lt. k.wide i (omega arith)) k.is
+  two : {held : List G} {w : ℕ → ℕ} (k : RowsOn held 2 w) → Two held k.base k.rows (w 0) (w 1)
+  two {held} {w} k = go k.rows k.count (λ i lt. k.wide i lt) k.is
     where
       go : (us : List (List G)) → length us ≡ 2 → ((i : ℕ) → i < 2 → length (get_or us i []) ≡ w i) → held ≡ k.base ++ concat us → Two held k.base us (w 0) (w 1)
       go [] e h is = absurd (omega arith)
       go (a ∷ []) e h is = absurd (omega arith)
       go (a ∷ b ∷ c ∷ us) e h is = absurd (omega arith)
-      go (a ∷ b ∷ []) e h is =
-          let q : held ≡ k.base ++ (a ++ b) = is ∙ ap (λ l. k.base ++ (a ++ l)) (append-nil b) in
-          record { a = a; b = b; are = refl; wide_a = h 0 (omega arith); wide_b = h 1 (omega arith); is = q; long = ap length q ∙ length-append k.base (a ++ b) ∙ ap (λ l. length k.base + l) (length-append a b ∙ ap₂ (λ x y. x + y) (h 0 (omega arith)) (h 1 (omega arith))) }
+      go (a ∷ b ∷ []) e h is = record { a = a; b = b; are = refl; wide_a = h 0 (omega arith); wide_b = h 1 (omega arith); is = is ∙ ap (λ l. k.base ++ (a ++ l)) (append-nil b) }
 
-  pub record Three (held base : List G) (us : List (List G)) (n m : ℕ) : Type 0 where
+  record Three (held base : List G) (us : List (List G)) (n m l : ℕ) : Type 0 where
     pub a : List G
     pub b : List G
     pub c : List G
     pub are : us ≡ a ∷ b ∷ c ∷ []
     pub wide_a : length a ≡ n
     pub wide_b : length b ≡ m
-    pub wide_c : length c ≡ m
+    pub wide_c : length c ≡ l
     pub is : held ≡ base ++ (a ++ (b ++ c))
-    pub long : length held ≡ length base + (n + (m + m))
 
-  pub three : (held : List G) (w : ℕ → ℕ) {c : ℕ} → c ≡ 3 → (k : RowsOn held c w) → w 1 ≡ w 2 → Three held k.base k.rows (w 0) (w 1)
-  three held w ec k same = go k.rows (k.count ∙ ec) (λ i lt. k.wide i (omega arith)) k.is
+  three : {held : List G} {w : ℕ → ℕ} (k : RowsOn held 3 w) → Three held k.base k.rows (w 0) (w 1) (w 2)
+  three {held} {w} k = go k.rows k.count (λ i lt. k.wide i lt) k.is
     where
-      go : (us : List (List G)) → length us ≡ 3 → ((i : ℕ) → i < 3 → length (get_or us i []) ≡ w i) → held ≡ k.base ++ concat us → Three held k.base us (w 0) (w 1)
+      go : (us : List (List G)) → length us ≡ 3 → ((i : ℕ) → i < 3 → length (get_or us i []) ≡ w i) → held ≡ k.base ++ concat us → Three held k.base us (w 0) (w 1) (w 2)
       go [] e h is = absurd (omega arith)
       go (a ∷ []) e h is = absurd (omega arith)
       go (a ∷ b ∷ []) e h is = absurd (omega arith)
       go (a ∷ b ∷ c ∷ d ∷ us) e h is = absurd (omega arith)
       go (a ∷ b ∷ c ∷ []) e h is =
-          let q : held ≡ k.base ++ (a ++ (b ++ c)) = is ∙ ap (λ l. k.base ++ (a ++ (b ++ l))) (append-nil c) in
-          let ha = h 0 (omega arith) in
-          let hb = h 1 (omega arith) in
-          let hc = h 2 (omega arith) ∙ sym same in
-          record { a = a; b = b; c = c; are = refl; wide_a = ha; wide_b = hb; wide_c = hc; is = q; long = ap length q ∙ length-append k.base (a ++ (b ++ c)) ∙ ap (λ l. length k.base + l) (length-append a (b ++ c) ∙ ap₂ (λ x y. x + y) ha (length-append b c ∙ ap₂ (λ x y. x + y) hb hc)) }
-
-  pub record One (held base : List G) (us : List (List G)) (n : ℕ) : Type 0 where
-    pub a : List G
-    pub are : us ≡ a ∷ []
-    pub is : held ≡ base ++ a
-
-  pub one : (held : List G) (w : ℕ → ℕ) {c : ℕ} → c ≡ 1 → (k : RowsOn held c w) → One held k.base k.rows (w 0)
-  one held w ec k = go k.rows (k.count ∙ ec) k.is
-    where
-      go : (us : List (List G)) → length us ≡ 1 → held ≡ k.base ++ concat us → One held k.base us (w 0)
-      go [] e is = absurd (omega arith)
-      go (a ∷ b ∷ us) e is = absurd (omega arith)
-      go (a ∷ []) e is = record { a = a; are = refl; is = is ∙ ap (λ l. k.base ++ l) (append-nil a) }
-
-  pub none : (held : List G) (w : ℕ → ℕ) {c : ℕ} → c ≡ 0 → (k : RowsOn held c w) → held ≡ k.base
-  none held w ec k = go k.rows (k.count ∙ ec) k.is
-    where
-      go : (us : List (List G)) → length us ≡ 0 → held ≡ k.base ++ concat us → held ≡ k.base
-      go [] e is = is ∙ append-nil k.base
-      go (a ∷ us) e is = absurd (omega arith)
+          record { a = a; b = b; c = c; are = refl; wide_a = h 0 (omega arith); wide_b = h 1 (omega arith); wide_c = h 2 (omega arith); is = is ∙ ap (λ l. k.base ++ (a ++ (b ++ l))) (append-nil c) }
 
   -- ---- what the stack's functions say
   abbrev GradeIs : List G → ℕ → ℕ → G → Type 0
@@ -109,104 +97,106 @@ module _ {G : Type 0} where
   abbrev TwoBecome : ℕ → ℕ → List G → List G → (List G → List G → List G) → Type 0
   TwoBecome n m before after f = (h a b : List G) → length a ≡ n → length b ≡ m → before ≡ h ++ (a ++ b) → after ≡ h ++ f a b
 
-module _ {G : Type 0} (o : Ops G) (r : ℕ → ℕ → G) (n next : ℕ) (before after : List G) where
-  abbrev Done : Node → List G → List G → Type 0
-  Done node = Closed o r node n next before after
+  top_of : {before : List G} (base a b : List G) {x : G} (d : G) (m level : ℕ) → length b ≡ m → before ≡ base ++ (a ++ b) → GradeIs before m level x → x ≡ get_or b level d
+  top_of base a b d m level e is g = g (base ++ a) b d e (is ∙ sym (append_assoc base a b))
 
-  pub leaf : (node : Node) (answers : List G) → kids_of node ≡ 0 → ((us : List (List G)) → after ≡ before ++ node_row o r node n us) → ((us : List (List G)) → own_grades o node n us ≡ []) → Done node answers answers
-  leaf node answers e row own = record {
-    row = λ k. row k.rows ∙ ap (λ l. l ++ node_row o r node n k.rows) (none before (kid_width n node) e k);
-    own = λ k. sym (ap (λ gs. put next gs answers) (own k.rows) ∙ put_none next answers);
-  }
+-- ---- each kind of node, by what the stack's functions say
 
-  pub pass : (node : Node) (answers : List G) → kids_of node ≡ 1 → ((us : List (List G)) → node_row o r node n us ≡ kid_row us 0) → ((us : List (List G)) → own_grades o node n us ≡ []) → after ≡ before → Done node answers answers
-  pass node answers e row own same = record {
-    row = λ k. (let q = one before (kid_width n node) e k in same ∙ q.is ∙ ap (λ l. k.base ++ l) (sym (row k.rows ∙ ap (λ us. kid_row us 0) q.are)));
-    own = λ k. sym (ap (λ gs. put next gs answers) (own k.rows) ∙ put_none next answers);
-  }
+module _ {G : Type 0} {o : Ops G} {r : ℕ → ℕ → G} {n next : ℕ} {before after answers : List G} {node : Node} where
+  -- at the node's kind, where there is room for the grades of the names that it binds
+  at_kind : {kind : Node} {later : List G} → node ≡ kind → next + binders node ≤ length answers → (next + binders kind ≤ length answers → Closed o r kind n next before after answers later) → Closed o r node n next before after answers later
+  at_kind {kind} {later} e few closed = subst (λ k. Closed o r k n next before after answers later) (sym e) (closed (subst (λ k. next + binders k ≤ length answers) e few))
 
-  -- two kids, the second m wide
-  pub summed : (node : Node) (m : ℕ) (answers later : List G) → kids_of node ≡ 2 → kid_width n node 1 ≡ m → ((us : List (List G)) → node_row o r node n us ≡ row_plus o (kid_row us 0) (kid_row us 1))
-      → TwoBecome n m before after (row_plus o) → ((k : KidsOn before node n) → later ≡ put next (own_grades o node n k.rows) answers) → Done node answers later
-  summed node m answers later e w row add own = record {
+  pub let_closed : {k' : Binder} {mid : List G} {x : G} → node ≡ Let k' → next + binders node ≤ length answers → GradeIs before (n + 1) n x
+      → TwoBecome n (n + 1) before mid (λ a b. row_times o x a ++ b) → TwoBecome n (n + 1) mid after (row_plus o) → Closed o r node n next before after answers (set answers next x)
+  let_closed {k'} {mid} {x} e few g scale add = at_kind e few (λ room. record {
     row = λ k. (
-        let q = two before (kid_width n node) e k in
-        add k.base q.a q.b q.wide_a (q.wide_b ∙ w) q.is ∙ ap (λ l. k.base ++ l) (sym (row k.rows ∙ ap (λ us. row_plus o (kid_row us 0) (kid_row us 1)) q.are)));
-    own = own;
-  }
+        let q = two k in
+        let wb : length q.b ≡ n + 1 = q.wide_b ∙ sym (add-one n) in
+        let x_is : x ≡ get_or q.b n o.zero = top_of k.base q.a q.b o.zero (n + 1) n wb q.is g in
+        add k.base (row_times o x q.a) q.b (length-map q.a (o.times x) ∙ q.wide_a) wb (scale k.base q.a q.b q.wide_a wb q.is)
+        ∙ ap (λ y. k.base ++ row_plus o (row_times o y q.a) q.b) x_is ∙ ap (λ us. k.base ++ node_row o r (Let k') n us) (sym q.are));
+    own = λ k. (
+        let q = two k in
+        let x_is : x ≡ get_or q.b n o.zero = top_of k.base q.a q.b o.zero (n + 1) n (q.wide_b ∙ sym (add-one n)) q.is g in
+        put_one next x answers (omega arith) ∙ ap (λ y. put next (y ∷ []) answers) x_is ∙ ap (λ us. put next (own_grades o (Let k') n us) answers) (sym q.are));
+  })
 
-  pub no_own : (node : Node) (answers : List G) → ((us : List (List G)) → own_grades o node n us ≡ []) → (k : KidsOn before node n) → answers ≡ put next (own_grades o node n k.rows) answers
-  no_own node answers own k = sym (ap (λ gs. put next gs answers) (own k.rows) ∙ put_none next answers)
+  pub take_closed : {k' : Binder} {x : G} → node ≡ Take k' → next + binders node ≤ length answers → GradeIs before (n + 1) n x → TwoBecome n (n + 1) before after (row_plus o) → Closed o r node n next before after answers (set answers next x)
+  take_closed {k'} {x} e few g add = at_kind e few (λ room. record {
+    row = λ k. (let q = two k in add k.base q.a q.b q.wide_a (q.wide_b ∙ sym (add-one n)) q.is ∙ ap (λ us. k.base ++ node_row o r (Take k') n us) (sym q.are));
+    own = λ k. (
+        let q = two k in
+        let x_is : x ≡ get_or q.b n o.zero = top_of k.base q.a q.b o.zero (n + 1) n (q.wide_b ∙ sym (add-one n)) q.is g in
+        put_one next x answers (omega arith) ∙ ap (λ y. put next (y ∷ []) answers) x_is ∙ ap (λ us. put next (own_grades o (Take k') n us) answers) (sym q.are));
+  })
 
-  top_of : (base a b : List G) (d x : G) (n m level : ℕ) → length b ≡ m → before ≡ base ++ (a ++ b) → GradeIs before m level x → x ≡ get_or b level d
-  top_of base a b d x n m level e is g = g (base ++ a) b d e (is ∙ sym (append_assoc base a b))
+  pub split_closed : {k' : Binder} {x y : G} → node ≡ Split k' → next + binders node ≤ length answers → GradeIs before (n + 2) n x → GradeIs before (n + 2) (n + 1) y
+      → TwoBecome n (n + 2) before after (row_plus o) → Closed o r node n next before after answers (set (set answers next x) (next + 1) y)
+  split_closed {k'} {x} {y} e few g g' add = at_kind e few (λ room. (
+      let wide : suc (suc n) ≡ n + 2 = omega arith in
+      record {
+        row = λ k. (let q = two k in add k.base q.a q.b q.wide_a (q.wide_b ∙ wide) q.is ∙ ap (λ us. k.base ++ node_row o r (Split k') n us) (sym q.are));
+        own = λ k. (
+            let q = two k in
+            let wb : length q.b ≡ n + 2 = q.wide_b ∙ wide in
+            let x_is : x ≡ get_or q.b n o.zero = top_of k.base q.a q.b o.zero (n + 2) n wb q.is g in
+            let y_is : y ≡ get_or q.b (suc n) o.zero = top_of k.base q.a q.b o.zero (n + 2) (n + 1) wb q.is g' ∙ ap (λ i. get_or q.b i o.zero) (add-one n) in
+            put_two next x y answers (omega arith) ∙ ap₂ (λ u v. put next (u ∷ v ∷ []) answers) x_is y_is ∙ ap (λ us. put next (own_grades o (Split k') n us) answers) (sym q.are));
+      }))
 
-  pub one_own : (node : Node) (answers : List G) (x : G) → kids_of node ≡ 2 → kid_width n node 1 ≡ n + 1 → ((us : List (List G)) → own_grades o node n us ≡ get_or (kid_row us 1) n o.zero ∷ []) → GradeIs before (n + 1) n x → next < length answers
-      → (k : KidsOn before node n) → set answers next x ≡ put next (own_grades o node n k.rows) answers
-  one_own node answers x e w own g lt k =
-      let q = two before (kid_width n node) e k in
-      let x_is : x ≡ get_or (kid_row k.rows 1) n o.zero = top_of k.base q.a q.b o.zero x n (n + 1) n (q.wide_b ∙ w) q.is g ∙ ap (λ us. get_or (kid_row us 1) n o.zero) (sym q.are) in
-      put_one next x answers lt ∙ ap (λ y. put next (y ∷ []) answers) x_is ∙ ap (λ gs. put next gs answers) (sym (own k.rows))
+  pub case_closed : {k' : Binder} {mid : List G} {x y : G} → node ≡ Case k' → next + binders node ≤ length answers → GradeIs before (n + 1 + n + 1) n x → GradeIs before (n + 1) n y
+      → TwoBecome (n + 1) (n + 1) before mid (row_join o) → TwoBecome n (n + 1) mid after (row_plus o) → Closed o r node n next before after answers (set (set answers next x) (next + 1) y)
+  case_closed {k'} {mid} {x} {y} e few g g' join add = at_kind e few (λ room. record {
+    row = λ k. (
+        let q = three k in
+        let wb : length q.b ≡ n + 1 = q.wide_b ∙ sym (add-one n) in
+        let wc : length q.c ≡ n + 1 = q.wide_c ∙ sym (add-one n) in
+        let mid_is : mid ≡ k.base ++ (q.a ++ row_join o q.b q.c) =
+        join (k.base ++ q.a) q.b q.c wb wc (q.is ∙ sym (append_assoc k.base q.a (q.b ++ q.c))) ∙ append_assoc k.base q.a (row_join o q.b q.c) in
+        add k.base q.a (row_join o q.b q.c) q.wide_a (length_zip o.join q.b q.c ∙ wb) mid_is ∙ ap (λ us. k.base ++ node_row o r (Case k') n us) (sym q.are));
+    own = λ k. (
+        let q = three k in
+        let wb = q.wide_b in
+        let wc : length q.c ≡ n + 1 = q.wide_c ∙ sym (add-one n) in
+        let wbc = length-append q.b q.c in
+        let x_is : x ≡ get_or q.b n o.zero =
+        top_of k.base q.a (q.b ++ q.c) o.zero (n + 1 + n + 1) n (omega arith) q.is g ∙ get_or_append_left q.b q.c o.zero n (omega arith) in
+        let y_is : y ≡ get_or q.c n o.zero = g' (k.base ++ (q.a ++ q.b)) q.c o.zero wc (q.is ∙ ap (λ l. k.base ++ l) (sym (append_assoc q.a q.b q.c)) ∙ sym (append_assoc k.base (q.a ++ q.b) q.c)) in
+        put_two next x y answers (omega arith) ∙ ap₂ (λ u v. put next (u ∷ v ∷ []) answers) x_is y_is ∙ ap (λ us. put next (own_grades o (Case k') n us) answers) (sym q.are));
+  })
 
-  pub let_row : (k' : Binder) (mid : List G) (x : G) → GradeIs before (n + 1) n x → TwoBecome n (n + 1) before mid (λ a b. row_times o x a ++ b) → TwoBecome n (n + 1) mid after (row_plus o)
-      → (k : KidsOn before (Let k') n) → after ≡ k.base ++ node_row o r (Let k') n k.rows
-  let_row k' mid x g scale add k =
-      let q = two before (kid_width n (Let k')) refl k in
-      let wb : length q.b ≡ n + 1 = q.wide_b ∙ sym (add-one n) in
-      let x_is : x ≡ get_or q.b n o.zero = top_of k.base q.a q.b o.zero x n (n + 1) n wb q.is g in
-      add k.base (row_times o x q.a) q.b (length-map q.a (o.times x) ∙ q.wide_a) wb (scale k.base q.a q.b q.wide_a wb q.is)
-      ∙ ap (λ y. k.base ++ row_plus o (row_times o y q.a) q.b) x_is ∙ ap (λ us. k.base ++ node_row o r (Let k') n us) (sym q.are)
+same_width : (n : ℕ) (l : LegId) (c k : ℕ) → kid_width n (Call l c) k ≡ n
+same_width n l c zero = refl
+same_width n l c (suc k) = refl
 
-  pub split_own : (k' : Binder) (answers : List G) (x y : G) → GradeIs before (n + 2) n x → GradeIs before (n + 2) (n + 1) y → next + 1 < length answers
-      → (k : KidsOn before (Split k') n) → set (set answers next x) (next + 1) y ≡ put next (own_grades o (Split k') n k.rows) answers
-  split_own k' answers x y g g' lt k =
-      let q = two before (kid_width n (Split k')) refl k in
-      let wb : length q.b ≡ n + 2 = q.wide_b ∙ (let e : suc (suc n) ≡ n + 2 = omega arith in e) in
-      let x_is : x ≡ get_or q.b n o.zero = top_of k.base q.a q.b o.zero x n (n + 2) n wb q.is g in
-      let y_is : y ≡ get_or q.b (suc n) o.zero = top_of k.base q.a q.b o.zero y n (n + 2) (n + 1) wb q.is g' ∙ ap (λ i. get_or q.b i o.zero) (add-one n) in
-      put_two next x y answers lt ∙ ap₂ (λ u v. put next (u ∷ v ∷ []) answers) x_is y_is ∙ ap (λ us. put next (own_grades o (Split k') n us) answers) (sym q.are)
+-- the kids of a call are its arguments
+abbrev arguments_on : {G : Type 0} {held : List G} {n : ℕ} (l : LegId) (c : ℕ) → KidsOn held (Call l c) n → RowsOn held c (λ i. n)
+arguments_on {n = n} l c k = record { base = k.base; rows = k.rows; count = k.count; wide = λ i lt. k.wide i lt ∙ same_width n l c i; is = k.is }
 
-  pub case_own : (k' : Binder) (answers : List G) (x y : G) → GradeIs before (n + 1 + n + 1) n x → GradeIs before (n + 1) n y → next + 1 < length answers
-      → (k : KidsOn before (Case k') n) → set (set answers next x) (next + 1) y ≡ put next (own_grades o (Case k') n k.rows) answers
-  case_own k' answers x y g g' lt k =
-      let q = three before (kid_width n (Case k')) refl k refl in
-      let wb = q.wide_b in
-      let wc : length q.c ≡ n + 1 = q.wide_c ∙ sym (add-one n) in
-      let wbc = length-append q.b q.c in
-      let x_is : x ≡ get_or q.b n o.zero =
-      top_of k.base q.a (q.b ++ q.c) o.zero x n (n + 1 + n + 1) n (omega arith) q.is g ∙ get_or_append_left q.b q.c o.zero n (omega arith) in
-      let y_is : y ≡ get_or q.c n o.zero = g' (k.base ++ (q.a ++ q.b)) q.c o.zero wc (q.is ∙ ap (λ l. k.base ++ l) (sym (append_assoc q.a q.b q.c)) ∙ sym (append_assoc k.base (q.a ++ q.b) q.c)) in
-      put_two next x y answers lt ∙ ap₂ (λ u v. put next (u ∷ v ∷ []) answers) x_is y_is ∙ ap (λ us. put next (own_grades o (Case k') n us) answers) (sym q.are)
+-- The c grades in the answers from `first` on.
+abbrev pub part : {G : Type 0} → ℕ → ℕ → List G → List G
+part first c answers = take (first + c - first) (drop first answers)
 
-  pub case_row : (k' : Binder) (mid : List G) → TwoBecome (n + 1) (n + 1) before mid (row_join o) → TwoBecome n (n + 1) mid after (row_plus o)
-      → (k : KidsOn before (Case k') n) → after ≡ k.base ++ node_row o r (Case k') n k.rows
-  case_row k' mid join add k =
-      let q = three before (kid_width n (Case k')) refl k refl in
-      let wb : length q.b ≡ n + 1 = q.wide_b ∙ sym (add-one n) in
-      let wc : length q.c ≡ n + 1 = q.wide_c ∙ sym (add-one n) in
-      let mid_is : mid ≡ k.base ++ (q.a ++ row_join o q.b q.c) =
-      join (k.base ++ q.a) q.b q.c wb wc (q.is ∙ sym (append_assoc k.base q.a (q.b ++ q.c))) ∙ append_assoc k.base q.a (row_join o q.b q.c) in
-      add k.base q.a (row_join o q.b q.c) q.wide_a (length_zip o.join q.b q.c ∙ wb) mid_is
-      ∙ ap (λ us. k.base ++ node_row o r (Case k') n us) (sym q.are)
+part_long : {G : Type 0} (first c : ℕ) (answers : List G) → first + c ≤ length answers → length (part first c answers) ≡ c
+part_long first c answers fits = let rest = length-drop first answers in length-take-le (first + c - first) (drop first answers) (omega arith) ∙ (let e : first + c - first ≡ c = omega arith in e)
 
-  pub same_width : (l : LegId) (c k : ℕ) → kid_width n (Call l c) k ≡ n
-  same_width l c zero = refl
-  same_width l c (suc k) = refl
+module _ {G : Type 0} {held : List G} {n : ℕ} {node : Node} {l : LegId} {c : ℕ} (first : ℕ) (answers : List G) (fits : first + c ≤ length answers) (e : node ≡ Call l c) where
+  -- as many arguments stand on the stack
+  pub arguments_there : KidsOn held node n → RowsOn held (length (part first c answers)) (λ i. n)
+  arguments_there kids = subst (λ m. RowsOn held m (λ i. n)) (sym (part_long first c answers fits)) (arguments_on l c (subst (λ k. KidsOn held k n) e kids))
 
-  abbrev pub arguments_on : (l : LegId) (c : ℕ) → KidsOn before (Call l c) n → RowsOn before c (λ i. n)
-  arguments_on l c k = record { base = k.base; rows = k.rows; count = k.count; wide = λ i lt. k.wide i lt ∙ same_width l c i; is = k.is }
-
--- ---- how deep the stack is
-
-module _ {G : Type 0} (s : Contexts G) (node : Node) (n m : ℕ) (fits : s.used ≤ room s) (k : KidsOn (held s) node n) where
-  pub there_two : kids_of node ≡ 2 → kid_width n node 1 ≡ m → n + m ≤ s.used
-  there_two e w =
-      let q = two (held s) (kid_width n node) e k in
-      let long = sym (length-take-le s.used s.places.now fits) ∙ q.long in
-      omega arith
-
-  pub there_three : kids_of node ≡ 3 → kid_width n node 1 ≡ m → kid_width n node 2 ≡ m → n + (m + m) ≤ s.used
-  there_three e w v =
-      let q = three (held s) (kid_width n node) e k (w ∙ sym v) in
-      let long = sym (length-take-le s.used s.places.now fits) ∙ q.long in
-      omega arith
+  pub call_closed : {o : Ops G} {r : ℕ → ℕ → G} {next : ℕ} {after : List G} → ((j : ℕ) → r l.index j ≡ get_or answers (first + j) o.zero)
+      → ((k : RowsOn held (length (part first c answers)) (λ i. n)) → after ≡ k.base ++ call_row o (λ j. get_or (part first c answers) j o.zero) 0 n k.rows)
+      → Closed o r node n next held after answers answers
+  call_closed {o} {r} {next} {after} grades row =
+      let long = part_long first c answers fits in
+      subst (λ k. Closed o r k n next held after answers answers) (sym e) (record {
+        row = λ k. (
+            let a = arguments_on l c k in
+            let count = a.count in
+            row (record { base = a.base; rows = a.rows; count = a.count ∙ sym long; wide = λ i lt. a.wide i (omega arith); is = a.is })
+            ∙ ap (λ u. k.base ++ u) (call_same o (λ j. get_or (part first c answers) j o.zero) (r l.index) n 0 k.rows (λ i le lt.
+            get_or-take (first + c - first) (drop first answers) i o.zero (omega arith) ∙ get_or-drop first answers i o.zero ∙ sym (grades i))));
+        own = λ k. sym (put_none next answers);
+      })

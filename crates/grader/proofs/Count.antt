@@ -1,20 +1,18 @@
 -- How many binders a plan has, by its tables. Assumes nothing.
-use Rattle.std.proofs.Common.{◌≡◌, ℕ, zero, suc, ◌+◌, ◌<◌, ◌≤◌, List, [], ◌∷◌, ◌++◌, length, get_or, take, drop, sym, ap, ◌∙◌, ap₂, append-nil, arith}
-use Rattle.std.proofs.lemmas.List.{take_more, take_all, drop_all}
+use Rattle.std.proofs.Common.{◌≡◌, ℕ, zero, suc, ◌+◌, List, [], ◌∷◌, length, get_or, take, drop, sym, ap, ◌∙◌, ap₂, arith, length-drop}
+use Rattle.std.proofs.lemmas.List.{take_all}
 use Rattle.plan.specs.declared.Leg.{Leg as FlatLeg}
 use Rattle.plan.specs.declared.Row.{Row}
 use Rattle.plan.specs.Trees.{flat}
 use Rattle.plan.specs.Written.{binders_in}
 use Rattle.plan.specs.Table.{nodes_of, term_at, node_size, Spells, InOrder}
 use Rattle.plan.specs.Plans.{params_of, leg_in, legs_in}
-use Rattle.plan.proofs.Ends.{nodes_length}
-use Rattle.plan.proofs.Kids.{nodes_here}
-use Rattle.plan.proofs.Plans.{legs_push}
+use Rattle.plan.proofs.Kids.{rows_here}
 use Rattle.typer.specs.Walk.{no_leg}
 use Rattle.grading.specs.Grading.{turned}
 use Rattle.grading.specs.Least.{legs_binders}
-use Rattle.grading.proofs.Turned.{turned_push}
 use Rattle.grader.specs.Walk.{LegReady}
+use Rattle.grader.proofs.Legs.{lower_more}
 
 -- The last body ends with the table.
 last_ends : (p : ℕ) (ns : List Row) (gs : List FlatLeg) (k : ℕ) → k + 1 ≡ length gs → InOrder p ns gs → (get_or gs k no_leg).first + node_size (term_at ns (get_or gs k no_leg).first) ≡ length ns
@@ -26,18 +24,15 @@ last_ends p ns (g ∷ h ∷ gs) (suc k) e o = last_ends (p + node_size (term_at 
 
 module _ (ns : List Row) (gs : List FlatLeg) (k : ℕ) (last : k + 1 ≡ length gs) (s : Spells ns) (o : InOrder 0 ns gs) (r : LegReady ns (take k gs) (get_or gs k no_leg)) where
   legs_are : turned [] (legs_in ns gs) ≡ leg_in ns (get_or gs k no_leg) ∷ turned [] (legs_in ns (take k gs))
-  legs_are =
-      ap (λ l. turned [] (legs_in ns l)) (sym (ap (λ n. take n gs) last ∙ take_all (length gs) gs (let z : length gs ≤ length gs = omega arith in z))) ∙ ap (λ l. turned [] (legs_in ns l)) (take_more gs k no_leg (let z : k < length gs = omega arith in z))
-      ∙ ap (turned []) (legs_push ns (take k gs) (get_or gs k no_leg)) ∙ turned_push [] (legs_in ns (take k gs)) (leg_in ns (get_or gs k no_leg))
+  legs_are = ap (λ l. turned [] (legs_in ns l)) (sym (take_all (k + 1) gs (omega arith))) ∙ lower_more ns gs k (omega arith)
 
-  body_is : drop (get_or gs k no_leg).first (nodes_of ns) ≡ flat (term_at ns (get_or gs k no_leg).first)
+  body_is : nodes_of (drop (get_or gs k no_leg).first ns) ≡ flat (term_at ns (get_or gs k no_leg).first)
   body_is =
-      let n = nodes_length ns in
+      let first = (get_or gs k no_leg).first in
+      let size = node_size (term_at ns first) in
+      let rest = length-drop first ns in
       let e = last_ends 0 ns gs k last o in
-      nodes_here ns s (get_or gs k no_leg).first r.within
-      ∙ ap (λ l. flat (term_at ns (get_or gs k no_leg).first) ++ l) (drop_all ((get_or gs k no_leg).first + node_size (term_at ns (get_or gs k no_leg).first)) (nodes_of ns) (omega arith))
-      ∙ append-nil (flat (term_at ns (get_or gs k no_leg).first))
+      ap nodes_of (sym (take_all size (drop first ns) (omega arith))) ∙ rows_here ns s first r.within
 
-  pub counted : binders_in ((get_or gs k no_leg).binder.index + length (params_of (get_or gs k no_leg))) (drop (get_or gs k no_leg).first (nodes_of ns)) ≡ legs_binders (turned [] (legs_in ns gs))
-  counted =
-      ap₂ (λ b os. binders_in (b + length (params_of (get_or gs k no_leg))) os) r.numbered body_is ∙ sym (ap legs_binders legs_are)
+  pub counted : binders_in ((get_or gs k no_leg).binder.index + length (params_of (get_or gs k no_leg))) (nodes_of (drop (get_or gs k no_leg).first ns)) ≡ legs_binders (turned [] (legs_in ns gs))
+  counted = ap₂ (λ b os. binders_in (b + length (params_of (get_or gs k no_leg))) os) r.numbered body_is ∙ sym (ap legs_binders legs_are)

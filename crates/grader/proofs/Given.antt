@@ -1,5 +1,5 @@
 -- What the tables of an accepted plan give to the call. Assumes nothing.
-use Rattle.std.proofs.Common.{◌≡◌, ℕ, suc, ◌≤◌, cond, List, [], ◌∷◌, length, Ok, Err, vec_items, sym, refl, ap, ◌∙◌, subst, ap₂, le-leb}
+use Rattle.std.proofs.Common.{◌≡◌, ℕ, ◌≤◌, cond, List, [], length, Ok, Err, vec_items, sym, ap, ◌∙◌, subst, ap₂, le-leb}
 use Rattle.scales.specs.Laws.{Ops}
 use Rattle.plan.specs.declared.Plan.{Plan as FlatPlan}
 use Rattle.plan.specs.declared.Leg.{Leg as FlatLeg}
@@ -7,8 +7,7 @@ use Rattle.plan.specs.declared.Row.{Row}
 use Rattle.plan.specs.Trees.{Plan}
 use Rattle.plan.specs.Table.{Spells, InOrder}
 use Rattle.plan.specs.Plans.{tree, Sound, legs_in}
-use Rattle.typer.specs.Typing.{PlanTyped}
-use Rattle.typer.specs.Accepted.{typed}
+use Rattle.typer.specs.Accepted.{typed, AcceptedExactly}
 use Rattle.grading.specs.Grading.{turned}
 use Rattle.grading.specs.Least.{least, binder_count}
 use Rattle.grading.proofs.Standing.{legs_counted}
@@ -17,28 +16,23 @@ use Rattle.grader.specs.Walk.{LegsReady}
 use Rattle.grader.specs.Grades.{work_places, if_plan, graded}
 use Rattle.grader.proofs.Ready.{legs_ready}
 
-legs_long : (ns : List Row) (gs : List FlatLeg) → length (legs_in ns gs) ≡ length gs
-legs_long ns [] = refl
-legs_long ns (g ∷ gs) = ap suc (legs_long ns gs)
+-- What holds of the tables of an accepted plan.
+pub record TablesReady (p : FlatPlan) (ns : List Row) (gs : List FlatLeg) : Type 0 where
+  pub spells : Spells ns
+  pub order : InOrder 0 ns gs
+  pub ready : LegsReady ns gs
+  pub same : turned [] (legs_in ns gs) ≡ turned [] (tree p).legs
 
-module _ (p : FlatPlan) (s : Sound p) (t : PlanTyped (tree p)) (gs : List FlatLeg) (ns : List Row) (eg : gs ≡ vec_items p.legs) (en : ns ≡ vec_items p.nodes) where
-  both : (P : List Row → List FlatLeg → Type 0) → P (vec_items p.nodes) (vec_items p.legs) → P ns gs
-  both P h = subst (λ x. P x gs) (sym en) (subst (P (vec_items p.nodes)) (sym eg) h)
-
-  pub some_so : 1 ≤ length gs
-  some_so = subst (λ n. 1 ≤ n) (legs_long (vec_items p.nodes) (vec_items p.legs) ∙ ap length (sym eg)) s.laid.some_legs
-
-  pub spells_so : Spells ns
-  spells_so = subst Spells (sym en) s.spells
-
-  pub order_so : InOrder 0 ns gs
-  order_so = both (InOrder 0) s.in_order
-
-  pub ready_so : LegsReady ns gs
-  ready_so = both LegsReady (legs_ready p s t)
-
-  pub legs_so : turned [] (legs_in ns gs) ≡ turned [] (tree p).legs
-  legs_so = ap₂ (λ x y. turned [] (legs_in x y)) en eg
+pub tables_ready : {bs : List ℕ} (p : FlatPlan) → typed bs ≡ Ok (tree p) → Sound p → ((q : Plan) → AcceptedExactly bs q) → {ns : List Row} {gs : List FlatLeg}
+    → ns ≡ vec_items p.nodes → gs ≡ vec_items p.legs → TablesReady p ns gs
+tables_ready p is s exactly {ns} {gs} en eg =
+    let both : (P : List Row → List FlatLeg → Type 0) → P (vec_items p.nodes) (vec_items p.legs) → P ns gs = λ P h. subst (λ l. P l gs) (sym en) (subst (P (vec_items p.nodes)) (sym eg) h) in
+    record {
+      spells = subst Spells (sym en) s.spells;
+      order = both (InOrder 0) s.in_order;
+      ready = both LegsReady (legs_ready p s ((exactly (tree p)).accepted is).1);
+      same = ap₂ (λ x y. turned [] (legs_in x y)) en eg;
+    }
 
 -- with room for all, the answer is the least grades
 pub granted : {G : Type 0} (o : Ops G) (work places : ℕ) (bs : List ℕ) (p : Plan) → typed bs ≡ Ok p → work_places ≤ work → binder_count p ≤ places → graded o work places bs ≡ Ok (least o p)

@@ -1,53 +1,46 @@
 -- Legs, one after another. Assumes nothing.
-use Rattle.std.proofs.Common.{◌≡◌, ℕ, zero, suc, ◌+◌, ◌-◌, ◌<◌, ◌≤◌, true, false, cond, eqb, List, [], ◌∷◌, ◌++◌, length, get_or, take, set, sym, refl, ap, ◌∙◌, subst, ap₂, inl, inr, arith, length-append, eq-eqb, ne_eqb}
-use Rattle.std.proofs.lemmas.List.{take_more, take_all, length-take-le, get_or-take, get_or_append_left}
+use Rattle.std.proofs.Common.{◌≡◌, ℕ, zero, suc, ◌+◌, ◌-◌, ◌<◌, ◌≤◌, true, false, cond, eqb, List, [], ◌∷◌, ◌++◌, length, get_or, take, drop, sym, refl, ap, ◌∙◌, subst, ap₂, inl, inr, arith, length-append, length-drop, eq-eqb, ne_eqb}
+use Rattle.std.proofs.lemmas.List.{take_more, take_all, length-take-le, get_or-take, get_or_append_left, drop-drop}
+use borrow.Rule.Slice.PartMut.{put_mid}
 use Rattle.std.proofs.lemmas.Bool.{cases_lt}
 use Rattle.scales.specs.Laws.{Ops}
 use Rattle.plan.specs.declared.Leg.{Leg as FlatLeg}
 use Rattle.plan.specs.declared.Row.{Row}
 use Rattle.plan.specs.Trees.{Leg, flat}
 use Rattle.plan.specs.Table.{term_at}
-use Rattle.grader.specs.declared.contexts.Contexts.{Contexts}
-use Rattle.grader.specs.Stack.{held}
 use Rattle.plan.specs.Written.{binders_in}
 use Rattle.plan.specs.Plans.{params_of, leg_in, legs_in}
+use Rattle.plan.proofs.Plans.{legs_push}
 use Rattle.typer.specs.Walk.{no_leg}
 use Rattle.grading.specs.Grading.{turned, at, arity}
 use Rattle.grading.specs.Least.{need, param_needs, leg_needs, inner, from_0, leg_grades, legs_grades, legs_binders}
 use Rattle.grading.proofs.Binders.{needs_length}
+use Rattle.grading.proofs.Turned.{turned_push, turned_length}
 use Rattle.grading.proofs.Numbers.{inner_counted, from_0_length}
 use Rattle.grading.proofs.Standing.{legs_counted}
 use Rattle.grader.specs.Walk.{Known, ParamsIn, param_grade, put, LegsReady}
 use Rattle.grader.proofs.Merging.{get_or_from_0}
-use Rattle.grader.proofs.Puts.{put_more, put_below, put_here, put_long}
-use Rattle.grader.proofs.Closing.{put_none, put_one}
+use Rattle.grader.proofs.Puts.{put_more, put_front, put_below, put_here, put_long}
+use Rattle.grader.proofs.Closing.{put_none}
 
--- one more grade
-pub put_push : {G : Type 0} (k j : ℕ) (hs xs : List G) (x : G) → j < length hs → k + length hs ≤ length xs → x ≡ get_or hs j x → set (put k (take j hs) xs) (k + j) x ≡ put k (take (j + 1) hs) xs
-put_push k j hs xs x lt le is =
-    let long = length-take-le j hs (omega arith) in
-    let long' = put_long k (take j hs) xs (omega arith) in
-    put_one (k + j) x (put k (take j hs) xs) (omega arith) ∙ put_more k (k + j) (take j hs) (x ∷ []) xs (omega arith) (omega arith)
-    ∙ ap (λ l. put k l xs) (sym (take_more hs j x lt ∙ ap (λ y. take j hs ++ (y ∷ [])) (sym is)))
-
-legs_push : (ns : List Row) (gs : List FlatLeg) (g : FlatLeg) → legs_in ns (gs ++ (g ∷ [])) ≡ legs_in ns gs ++ (leg_in ns g ∷ [])
-legs_push ns [] g = refl
-legs_push ns (h ∷ gs) g = ap (λ l. leg_in ns h ∷ l) (legs_push ns gs g)
-
-turned_push : (below gs : List Leg) (g : Leg) → turned below (gs ++ (g ∷ [])) ≡ g ∷ turned below gs
-turned_push below [] g = refl
-turned_push below (h ∷ gs) g = turned_push (h ∷ below) gs g
-
-turned_length : (below gs : List Leg) → length (turned below gs) ≡ length below + length gs
-turned_length below [] = omega arith
-turned_length below (h ∷ gs) = let e = turned_length (h ∷ below) gs in omega arith
-
-legs_length : (ns : List Row) (gs : List FlatLeg) → length (legs_in ns gs) ≡ length gs
+-- a row of the table for each leg
+pub legs_length : (ns : List Row) (gs : List FlatLeg) → length (legs_in ns gs) ≡ length gs
 legs_length ns [] = refl
 legs_length ns (g ∷ gs) = ap suc (legs_length ns gs)
 
 abbrev pub lower : List Row → List FlatLeg → ℕ → List Leg
 lower ns gs k = turned [] (legs_in ns (take k gs))
+
+module _ (ns : List Row) (gs : List FlatLeg) where
+  pub lower_more : (k : ℕ) → k < length gs → lower ns gs (k + 1) ≡ leg_in ns (get_or gs k no_leg) ∷ lower ns gs k
+  lower_more k lt = ap (λ l. turned [] (legs_in ns l)) (take_more gs k no_leg lt) ∙ ap (turned []) (legs_push ns (take k gs) (get_or gs k no_leg)) ∙ turned_push [] (legs_in ns (take k gs)) (leg_in ns (get_or gs k no_leg))
+
+  pub lower_long : (k : ℕ) → k ≤ length gs → length (lower ns gs k) ≡ k
+  lower_long k le =
+      let a = turned_length [] (legs_in ns (take k gs)) in
+      let b = legs_length ns (take k gs) in
+      let c = length-take-le k gs le in
+      omega arith
 
 module _ {G : Type 0} (o : Ops G) (ns : List Row) (gs : List FlatLeg) (start : List G) where
   -- The legs before the k-th are graded.
@@ -59,9 +52,6 @@ module _ {G : Type 0} (o : Ops G) (ns : List Row) (gs : List FlatLeg) (start : L
   pub first_leg : AtLeg 0 start
   first_leg = record { answers_are = sym (put_none 0 start); known = λ l j lt. absurd (omega arith); params = λ l lt. absurd (omega arith) }
 
-  pub lower_more : (k : ℕ) → k < length gs → lower ns gs (k + 1) ≡ leg_in ns (get_or gs k no_leg) ∷ lower ns gs k
-  lower_more k lt = ap (λ l. turned [] (legs_in ns l)) (take_more gs k no_leg lt) ∙ ap (turned []) (legs_push ns (take k gs) (get_or gs k no_leg)) ∙ turned_push [] (legs_in ns (take k gs)) (leg_in ns (get_or gs k no_leg))
-
   -- how many binders the lower legs and this one have
   leg_long : (Γ : List (ℕ → G)) (g : Leg) (s : ℕ) → s + length (leg_grades o Γ g) ≡ binders_in (s + arity g) (flat g.body)
   leg_long Γ g s =
@@ -71,7 +61,7 @@ module _ {G : Type 0} (o : Ops G) (ns : List Row) (gs : List FlatLeg) (start : L
       omega arith
 
   binders_more : (k : ℕ) → k < length gs → legs_binders (lower ns gs (k + 1)) ≡ legs_binders (lower ns gs k) + length (leg_grades o (leg_needs o (lower ns gs k)) (leg_in ns (get_or gs k no_leg)))
-  binders_more k lt = ap legs_binders (lower_more k lt) ∙ sym (leg_long (leg_needs o (lower ns gs k)) (leg_in ns (get_or gs k no_leg)) (legs_binders (lower ns gs k)))
+  binders_more k lt = ap legs_binders (lower_more ns gs k lt) ∙ sym (leg_long (leg_needs o (lower ns gs k)) (leg_in ns (get_or gs k no_leg)) (legs_binders (lower ns gs k)))
 
   -- fewer legs have no more binders
   binders_grow : (k d : ℕ) → k + d ≤ length gs → legs_binders (lower ns gs k) ≤ legs_binders (lower ns gs (k + d))
@@ -129,12 +119,7 @@ module _ {G : Type 0} (o : Ops G) (ns : List Row) (gs : List FlatLeg) (start : L
         ∙ ap (λ m. m + length (inner o Γ (leg_in ns g).body (arity (leg_in ns g)))) (from_0_length (arity (leg_in ns g)) (param_needs o Γ (leg_in ns g)) ∙ counted)
 
     Γ_long : length Γ ≡ k
-    Γ_long =
-        let a = needs_length o (lower ns gs k) in
-        let b = turned_length [] (legs_in ns (take k gs)) in
-        let c = legs_length ns (take k gs) in
-        let d = length-take-le k gs (omega arith) in
-        omega arith
+    Γ_long = needs_length o (lower ns gs k) ∙ lower_long ns gs k (omega arith)
 
     abbrev grades_of : ℕ → ℕ → G
     grades_of = param_grade o (param_needs o Γ (leg_in ns g) ∷ Γ)
@@ -208,17 +193,52 @@ module _ {G : Type 0} (o : Ops G) (ns : List Row) (gs : List FlatLeg) (start : L
         record {
           answers_are =
               e ∙ ap₂ (λ b xs. put b new xs) numbered h.answers_are ∙ put_more 0 (legs_binders (lower ns gs k)) (legs_grades o (lower ns gs k)) new start (omega arith) (omega arith)
-              ∙ ap (λ l. put 0 (legs_grades o l) start) (sym (lower_more k lt));
+              ∙ ap (λ l. put 0 (legs_grades o l) start) (sym (lower_more ns gs k lt));
           known = λ l j q lj. (
               let f = leg_at l (omega arith) in
-              ap₂ (λ xs x. at_place xs x j) e f ∙ known_next l j (omega arith) (subst (λ x. j < length (params_of x)) f lj) ∙ ap (λ ls. param_grade o (leg_needs o ls) l j) (sym (lower_more k lt)));
+              ap₂ (λ xs x. at_place xs x j) e f ∙ known_next l j (omega arith) (subst (λ x. j < length (params_of x)) f lj) ∙ ap (λ ls. param_grade o (leg_needs o ls) l j) (sym (lower_more ns gs k lt)));
           params = λ l q. subst (λ x. x.binder.index + length (params_of x) ≤ legs_binders (lower ns gs (k + 1))) (sym (leg_at l (omega arith))) (params_next l (omega arith));
         }
 
--- a leg's grades: its parameters', which are its body's context, and then those inside
-pub leg_split : {G : Type 0} (o : Ops G) (Γ : List (ℕ → G)) (ns : List Row) (g : FlatLeg) (n : ℕ) → length (params_of g) ≡ n
-    → leg_grades o Γ (leg_in ns g) ≡ from_0 n (need o Γ (term_at ns g.first) n) ++ inner o Γ (term_at ns g.first) n
-leg_split o Γ ns g n e = ap (λ n. from_0 n (need o Γ (term_at ns g.first) n) ++ inner o Γ (term_at ns g.first) n) e
+-- ---- one leg, by the grades of its parameters, which are its body's context, and those inside
 
-pub empty_held : {G : Type 0} (s : Contexts G) → s.used ≡ 0 → held s ≡ []
-empty_held s e = ap (λ n. take n s.places.now) e
+module _ {G : Type 0} (o : Ops G) (Γ : List (ℕ → G)) (ns : List Row) (g : FlatLeg) (n first : ℕ) (answers : List G) (n_is : n ≡ length (params_of g)) (fits : first + length (leg_grades o Γ (leg_in ns g)) ≤ length answers) where
+  abbrev context : List G
+  context = from_0 n (need o Γ (term_at ns g.first) n)
+
+  abbrev inside : List G
+  inside = inner o Γ (term_at ns g.first) n
+
+  split : leg_grades o Γ (leg_in ns g) ≡ context ++ inside
+  split = ap (λ m. from_0 m (need o Γ (term_at ns g.first) m) ++ inner o Γ (term_at ns g.first) m) (sym n_is)
+
+  pub leg_room : first + n + length inside ≤ length answers
+  leg_room =
+      let long = ap length split ∙ length-append context inside in
+      let wide = from_0_length n (need o Γ (term_at ns g.first) n) in
+      omega arith
+
+  -- the body is graded, with nothing else on the stack
+  module _ (start held after : List G) (empty : start ≡ []) (held_was : held ≡ start ++ context) (after_is : after ≡ put (first + n) inside answers) where
+    held_is : held ≡ context
+    held_is = held_was ∙ ap (λ l. l ++ context) empty
+
+    pub held_long : length held ≡ n
+    held_long = ap length held_is ∙ from_0_length n (need o Γ (term_at ns g.first) n)
+
+    pub params_room : first + n ≤ length after
+    params_room = let long = ap length after_is ∙ put_long (first + n) inside answers leg_room in let room = leg_room in omega arith
+
+    pub part_long : length (take (first + n - first) (drop first after)) ≡ n
+    part_long =
+        let room = params_room in
+        let rest = length-drop first after in
+        length-take-le (first + n - first) (drop first after) (omega arith) ∙ (let e : first + n - first ≡ n = omega arith in e)
+
+    pub leg_put : {later row : List G} → row ≡ held → later ≡ put_mid first (first + n - first) after row → later ≡ put first (leg_grades o Γ (leg_in ns g)) answers
+    leg_put {later} {row} same later_is =
+        let long = ap length same ∙ held_long in
+        let room = leg_room in
+        let wide = from_0_length n (need o Γ (term_at ns g.first) n) in
+        later_is ∙ ap (λ l. take first after ++ (row ++ l)) (drop-drop (first + n - first) first after ∙ ap (λ m. drop m after) (let z : first + (first + n - first) ≡ first + length row = omega arith in z))
+        ∙ ap₂ (put first) (same ∙ held_is) after_is ∙ put_front first (first + n) context inside answers (omega arith) (omega arith) ∙ ap (λ l. put first l answers) (sym split)

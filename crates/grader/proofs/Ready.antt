@@ -1,8 +1,7 @@
 -- The legs of an accepted plan can be graded. Assumes nothing.
-use Rattle.std.proofs.Common.{◌≡◌, ℕ, zero, suc, ◌+◌, ◌-◌, ◌<◌, ◌≤◌, true, false, cond, eqb, List, [], ◌∷◌, length, get_or, take, vec_items, sym, refl, ap, ◌∙◌, subst, inl, inr, arith, eq-eqb, ne_eqb}
+use Rattle.std.proofs.Common.{◌≡◌, ℕ, zero, suc, ◌+◌, ◌-◌, ◌<◌, ◌≤◌, true, false, cond, eqb, List, [], ◌∷◌, length, get_or, take, vec_items, sym, ap, ◌∙◌, subst, inl, inr, arith, eq-eqb, ne_eqb}
 use Rattle.std.proofs.lemmas.List.{take_all, get_or-take, length-take-le}
 use Rattle.std.proofs.lemmas.Bool.{cases_lt}
-use Rattle.scales.specs.declared.scale.Ceiling.TheVariants.{Unbounded}
 use Rattle.plan.specs.declared.TypeId.{TypeId}
 use Rattle.plan.specs.declared.Leg.{Leg as FlatLeg}
 use Rattle.plan.specs.declared.Row.{Row}
@@ -18,7 +17,7 @@ use Rattle.grading.specs.Grading.{turned, at, no_leg, arity}
 use Rattle.grading.proofs.Formed.{Formed, AllFormed, LegsFormed}
 use Rattle.grading.proofs.Standing.{LegsStand, types_of, accepted_stands, accepted_formed}
 use Rattle.grader.specs.Walk.{Fit, FitEach, Callable, LegsReady}
-use Rattle.grader.proofs.Legs.{lower, lower_more}
+use Rattle.grader.proofs.Legs.{lower, lower_more, lower_long}
 
 module _ (w : World) (legs : List Leg) (gs : List FlatLeg) (callable : (l c : ℕ) → l < length legs → c ≡ arity (at no_leg legs l) → Callable gs l c) where
   mutual
@@ -57,7 +56,7 @@ few_at types s ns [] k lt r = absurd (omega arith)
 few_at types s ns (g ∷ gs) zero lt r = let f = r.0.few_nodes in omega arith
 few_at types s ns (g ∷ gs) (suc k) lt r = few_at types (with_leg s (leg_in ns g)) ns gs k (omega arith) r.1
 
-order_at : (p : ℕ) (ns : List Row) (gs : List FlatLeg) (k : ℕ) → k < length gs → InOrder p ns gs → ((get_or gs k no_flat).first < length ns) × ((get_or gs k no_flat).count ≤ max_params)
+order_at : (p : ℕ) (ns : List Row) (gs : List FlatLeg) (k : ℕ) → k < length gs → InOrder p ns gs → ((get_or gs k no_flat).first < length ns) × (length (params_of (get_or gs k no_flat)) ≤ max_params)
 order_at p ns [] k lt o = absurd (omega arith)
 order_at p ns (g ∷ gs) zero lt o = (subst (λ q. q < length ns) (sym o.0) o.1, o.2)
 order_at p ns (g ∷ gs) (suc k) lt o = order_at (p + node_size (term_at ns p)) ns gs k (omega arith) o.3
@@ -68,13 +67,7 @@ scope_long (p ∷ ps) Γ = let e = scope_long ps (p ∷ Γ) in omega arith
 
 module _ (ns : List Row) (gs : List FlatLeg) where
   more : (k : ℕ) → k < length gs → lower ns gs (k + 1) ≡ leg_in ns (get_or gs k no_flat) ∷ lower ns gs k
-  more = lower_more {G = ℕ} (record { zero = 0; one = 0; plus = λ a b. a; times = λ a b. a; leq = λ a b. true; join = λ a b. a; ceiling = λ a. Unbounded }) ns gs []
-
-  lower_long : (k : ℕ) → k ≤ length gs → length (lower ns gs k) ≡ k
-  lower_long zero le = refl
-  lower_long (suc k) le =
-      let e = lower_long k (omega arith) in
-      ap (λ m. length (lower ns gs m)) (let q : suc k ≡ k + 1 = omega arith in q) ∙ ap length (more k (omega arith)) ∙ ap suc e
+  more = lower_more ns gs
 
   -- what holds of each leg over those behind it, at any leg
   down : (P : List Leg → Type 0) → ((g : Leg) (l : List Leg) → P (g ∷ l) → P l) → (k d : ℕ) → k + d ≤ length gs → P (lower ns gs (k + d)) → P (lower ns gs k)
@@ -91,7 +84,7 @@ module _ (ns : List Row) (gs : List FlatLeg) where
   numbered_at : (k l : ℕ) → k ≤ length gs → l < k → at no_leg (lower ns gs k) l ≡ leg_in ns (get_or gs l no_flat)
   numbered_at zero l le lt = absurd (omega arith)
   numbered_at (suc k) l le lt =
-      let long = lower_long k (omega arith) in
+      let long = lower_long ns gs k (omega arith) in
       let e : lower ns gs (suc k) ≡ leg_in ns (get_or gs k no_flat) ∷ lower ns gs k = ap (lower ns gs) (let q : suc k ≡ k + 1 = omega arith in q) ∙ more k (omega arith) in
       ap (λ ls. at no_leg ls l) e ∙ elim (cases_lt l k) [
         | inl z ↦
@@ -105,7 +98,7 @@ module _ (ns : List Row) (gs : List FlatLeg) where
 
   callable_at : (k : ℕ) → k ≤ length gs → (l c : ℕ) → l < length (lower ns gs k) → c ≡ arity (at no_leg (lower ns gs k) l) → Callable (take k gs) l c
   callable_at k le l c lt e =
-      let long = lower_long k le in
+      let long = lower_long ns gs k le in
       let q : l < k = omega arith in
       let t = length-take-le k gs le in
       (omega arith, e ∙ ap arity (numbered_at k l le q) ∙ ap (λ g. length (params_of g)) (sym (get_or-take k gs l no_flat q)))

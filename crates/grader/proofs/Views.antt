@@ -11,7 +11,9 @@ use Rattle.plan.specs.Limits.{max_levels}
 use Rattle.plan.specs.Trees.{Term, t_unit, t_number, t_name, t_let, t_take, t_pair, t_split, t_left, t_right, t_case, t_call, t_add, t_less, Terms, t_none, t_more, how_many, the_leg, head, arguments, kids}
 use Rattle.grading.specs.Least.{need, needs, inner, inner_of_each, from_0}
 use Rattle.grader.specs.Walk.{Fit, FitEach, HeadFit, Callable, kid_width, node_row, own_grades, call_row, param_grade}
-use Rattle.grader.proofs.Merging.{get_or_from_0, length_from_0}
+use Rattle.grading.proofs.Numbers.{from_0_length}
+use Rattle.grader.proofs.Merging.{get_or_from_0}
+use Rattle.grader.proofs.Calling.{call_same}
 
 module _ {G : Type 0} where
   pub zip_row : (f : G → G → G) (n m : ℕ) (γ δ : ℕ → G) → n ≤ m → from_0 n (λ l. f (γ l) (δ l)) ≡ zipInto f (from_0 n γ) (from_0 m δ)
@@ -125,7 +127,7 @@ module _ {G : Type 0} (o : Ops G) (Γ : List (ℕ → G)) where
 
   pub rows_wide : (n : ℕ) (h : Node) (j : ℕ) (ts : List Term) (k : ℕ) → k < length ts → length (get_or (kid_rows n h j ts) k []) ≡ kid_width n h (j + k)
   rows_wide n h j [] k lt = absurd (omega arith)
-  rows_wide n h j (a ∷ ts) zero lt = length_from_0 (kid_width n h j) _ ∙ ap (kid_width n h) (let e : j ≡ j + 0 = omega arith in e)
+  rows_wide n h j (a ∷ ts) zero lt = from_0_length (kid_width n h j) _ ∙ ap (kid_width n h) (let e : j ≡ j + 0 = omega arith in e)
   rows_wide n h j (a ∷ ts) (suc k) lt = rows_wide n h (suc j) ts k (omega arith) ∙ ap (kid_width n h) (let e : suc j + k ≡ j + suc k = omega arith in e)
 
   pub rows_push : (n : ℕ) (h : Node) (j : ℕ) (ts : List Term) (a : Term) → kid_rows n h j (ts ++ (a ∷ [])) ≡ kid_rows n h j ts ++ (row (kid_width n h (j + length ts)) a ∷ [])
@@ -140,10 +142,6 @@ module _ {G : Type 0} (o : Ops G) (Γ : List (ℕ → G)) where
       ∙ sym (append_assoc (inner o Γ t (kid_width n h j)) (each_inner n h (suc j) ts) (each_inner n h (j + suc (length ts)) us))
 
   -- only a call asks for the grades of parameters, and for as many as it has arguments
-  call_same : (r r' : ℕ → G) (n j : ℕ) (us : List (List G)) → ((i : ℕ) → j ≤ i → i < j + length us → r i ≡ r' i) → call_row o r j n us ≡ call_row o r' j n us
-  call_same r r' n j [] h = refl
-  call_same r r' n j (u ∷ us) h = ap₂ (λ x v. row_plus o (row_times o x u) v) (h j (omega arith) (omega arith)) (call_same r r' n (suc j) us (λ i le lt. h i (omega arith) (omega arith)))
-
   pub node_same : (r r' : ℕ → ℕ → G) (gs : List FlatLeg) (h : Node) (n : ℕ) (us : List (List G)) → length us ≡ kids_of h → HeadFit gs n h
       → ((l c : ℕ) → Callable gs l c → (i : ℕ) → i < c → r l i ≡ r' l i) → node_row o r h n us ≡ node_row o r' h n us
   node_same r r' gs Unit' n us e f q = refl
@@ -156,7 +154,7 @@ module _ {G : Type 0} (o : Ops G) (Γ : List (ℕ → G)) where
   node_same r r' gs (Left y) n us e f q = refl
   node_same r r' gs (Right y) n us e f q = refl
   node_same r r' gs (Case k) n us e f q = refl
-  node_same r r' gs (Call l c) n us e f q = call_same (r l.index) (r' l.index) n 0 us (λ i le lt. q l.index c f i (omega (arith, e)))
+  node_same r r' gs (Call l c) n us e f q = call_same o (r l.index) (r' l.index) n 0 us (λ i le lt. q l.index c f i (omega (arith, e)))
   node_same r r' gs Add n us e f q = refl
   node_same r r' gs Less n us e f q = refl
 

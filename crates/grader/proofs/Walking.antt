@@ -3,6 +3,7 @@ use Rattle.std.proofs.Common.{◌≡◌, ℕ, suc, ◌+◌, ◌*◌, ◌<◌, �
 use Rattle.scales.specs.Laws.{Ops}
 use Rattle.plan.specs.declared.Row.{Row}
 use Rattle.plan.specs.declared.Leg.{Leg as FlatLeg}
+use Rattle.plan.specs.declared.Node.{Node}
 use Rattle.plan.specs.Limits.{max_levels}
 use Rattle.plan.specs.Kinds.{binders}
 use Rattle.plan.specs.Trees.{Term, flat, head, kids}
@@ -13,7 +14,7 @@ use Rattle.plan.proofs.Kids.{flat_head, kids_counted}
 use Rattle.typer.specs.Walk.{no_leg}
 use Rattle.grading.specs.Least.{inner}
 use Rattle.grader.specs.Walk.{Fit, KidsOn, Closed, Known, ParamsIn, params_at, param_grade, kid_width, node_row, own_grades, concat, put}
-use Rattle.grader.proofs.Merging.{length_from_0}
+use Rattle.grading.proofs.Numbers.{from_0_length}
 use Rattle.grader.proofs.Calling.{concat_push}
 use Rattle.grader.proofs.Puts.{put_more, put_front, put_below, put_long}
 use Rattle.grader.proofs.Closing.{put_none}
@@ -121,7 +122,7 @@ module _ {G : Type 0} (o : Ops G) (Γ : List (ℕ → G)) (gs : List FlatLeg) (n
         let front_less : own + length (done h.front) ≤ length start = omega (arith, ap (λ l. length (done l)) h.is ∙ ap length (inner_push o Γ n (head t) 0 h.front h.rest) ∙ length-append (done h.front) (each_inner o Γ n (head t) (0 + length h.front) h.rest)) in
         let long = ap length h.answers_are ∙ put_long own (done h.front) start front_less in
         let one_more = length-append h.front (a ∷ []) in
-        let held_long = ap length eh ∙ length-append held (row o Γ w (term_at ns p)) ∙ ap (λ m. length held + m) (length_from_0 w _) in
+        let held_long = ap length eh ∙ length-append held (row o Γ w (term_at ns p)) ∙ ap (λ m. length held + m) (from_0_length w _) in
         let wide : w ≤ max_levels = (fit_view gs w a x.fit_here).0 in
         let some = some_nodes a in
         let room = x.room in
@@ -146,6 +147,22 @@ module _ {G : Type 0} (o : Ops G) (Γ : List (ℕ → G)) (gs : List FlatLeg) (n
           sized = omega arith;
           enough = h.enough;
         }
+
+  -- what the answers in front hold stays
+  pub still_known : (b : ℕ) (xs : List G) → ParamsIn gs next → next ≤ b → b ≤ length start → Known o Γ gs start → Known o Γ gs (put b xs start)
+  still_known b xs p le fits h l j lt lj =
+      let bound = p l lt in
+      put_below b ((get_or gs l no_leg).binder.index + j) xs start o.zero (omega arith) fits ∙ h l j lt lj
+
+  -- The kid that stands next can be graded, w levels being in scope.
+  pub record KidReady (p binder w : ℕ) (held answers : List G) : Type 0 where
+    pub further : i < p
+    pub within : p < length ns
+    pub fit : Fit gs w (term_at ns p)
+    pub params : ParamsIn gs binder
+    pub known : Known o Γ gs answers
+    pub binders : binder + length (inner o Γ (term_at ns p) w) ≤ length answers
+    pub room : length held + 16 * node_size (term_at ns p) ≤ length base + 16 * node_size t
 
   -- all kids are graded
   pub record Walked (binder : ℕ) (held answers : List G) : Type 0 where
@@ -180,12 +197,6 @@ module _ {G : Type 0} (o : Ops G) (Γ : List (ℕ → G)) (gs : List FlatLeg) (n
             enough = h.enough;
           }
 
-  -- what the answers in front hold stays
-  pub still_known : (b : ℕ) (xs : List G) → ParamsIn gs next → next ≤ b → b ≤ length start → Known o Γ gs start → Known o Γ gs (put b xs start)
-  still_known b xs p le fits h l j lt lj =
-      let bound = p l lt in
-      put_below b ((get_or gs l no_leg).binder.index + j) xs start o.zero (omega arith) fits ∙ h l j lt lj
-
   module _ (binder : ℕ) (held answers : List G) (h : Walked binder held answers) where
     pub closed_row : (after later : List G) → Known o Γ gs answers → Fit gs n t → Closed o (params_at o gs answers) (head t) n next held after answers later → after ≡ base ++ row o Γ n t
     closed_row after later known f c =
@@ -201,3 +212,58 @@ module _ {G : Type 0} (o : Ops G) (Γ : List (ℕ → G)) (gs : List FlatLeg) (n
         let enough = h.enough in
         c.own h.on ∙ ap₂ (λ vs l. put next (own_grades o (head t) n vs) l) h.rows_are h.answers_are
         ∙ put_front next own (own_grades o (head t) n us) (done (kids t)) start (omega arith) (omega arith) ∙ ap (λ l. put next l start) (sym (inner_view o Γ n t))
+
+-- ---- the same, as the walk asks for it
+
+module _ {G : Type 0} {o : Ops G} {Γ : List (ℕ → G)} {gs : List FlatLeg} {ns : List Row} {i n next : ℕ} {t : Term} {base start : List G} {k p binder : ℕ} {held answers : List G}
+    (h : Walking o Γ gs ns i n next t base start k p binder held answers) where
+  done_long : length (each_inner o Γ n (head t) 0 (kids t)) ≡ length (each_inner o Γ n (head t) 0 h.front) + length (each_inner o Γ n (head t) (0 + length h.front) h.rest)
+  done_long =
+      ap (λ l. length (each_inner o Γ n (head t) 0 l)) h.is ∙ ap length (inner_push o Γ n (head t) 0 h.front h.rest)
+      ∙ length-append (each_inner o Γ n (head t) 0 h.front) (each_inner o Γ n (head t) (0 + length h.front) h.rest)
+
+  module _ {node : Node} {w : ℕ} (e : node ≡ head t) (lt : k < length (kids t)) (wide : w ≡ kid_width n node k) where
+    w_is : w ≡ kid_width n (head t) k
+    w_is = wide ∙ ap (λ o. kid_width n o k) e
+
+    kid : Next o Γ gs ns i n next t base start k p binder held answers h
+    kid = next_kid o Γ gs ns i n next t base start k p binder held answers h lt
+
+    pub kid_ready : ParamsIn gs next → Known o Γ gs start → KidReady o Γ gs ns i n next t base start p binder w held answers
+    kid_ready params known =
+        let x = kid in
+        let enough = h.enough in
+        let parts = done_long in
+        let size = ap node_size x.tree in
+        let room = x.room in
+        record {
+          further = h.behind;
+          within = x.within;
+          fit = subst (λ v. Fit gs v (term_at ns p)) (sym w_is) (subst (Fit gs (kid_width n (head t) k)) (sym x.tree) x.fit_here);
+          params = λ l q. (let z = params l q in let later = x.later in omega arith);
+          known = subst (Known o Γ gs) (sym h.answers_are) (still_known o Γ gs ns i n next t base start (next + binders (head t)) (each_inner o Γ n (head t) 0 h.front) params (omega arith) (omega arith) known);
+          binders = subst (λ v. binder + length (inner o Γ (term_at ns p) v) ≤ length answers) (sym w_is) (subst (λ a. binder + length (inner o Γ a (kid_width n (head t) k)) ≤ length answers) (sym x.tree) x.fits);
+          room = omega arith;
+        }
+
+    pub kid_done : {held' answers' : List G} {binder' : ℕ} → held' ≡ held ++ row o Γ w (term_at ns p) → answers' ≡ put binder (inner o Γ (term_at ns p) w) answers
+        → binder' ≡ binder + length (inner o Γ (term_at ns p) w) → Walking o Γ gs ns i n next t base start (k + 1) (row_at ns p).end binder' held' answers'
+    kid_done {held'} {answers'} {binder'} eh ea eb =
+        goes_on o Γ gs ns i n next t base start k p binder held answers h kid held' answers' binder'
+        (eh ∙ ap (λ v. held ++ row o Γ v (term_at ns p)) w_is)
+        (ea ∙ ap (λ v. put binder (inner o Γ (term_at ns p) v) answers) w_is)
+        (eb ∙ ap (λ v. binder + length (inner o Γ (term_at ns p) v)) w_is)
+
+  module _ (left : length (kids t) ≤ k) where
+    pub all_walked : Walked o Γ gs ns i n next t base start binder held answers
+    all_walked = none_left o Γ gs ns i n next t base start k p binder held answers h left
+
+    -- The node itself is closed: its context is on the stack, and the grades of its binders are among the answers.
+    pub node_closed : {node : Node} {after later : List G} → node ≡ head t → ParamsIn gs next → Known o Γ gs start → Fit gs n t → Closed o (params_at o gs answers) node n next held after answers later
+        → (after ≡ base ++ row o Γ n t) × (later ≡ put next (inner o Γ t n) start)
+    node_closed {node} {after} {later} e params known fit c =
+        let w = all_walked in
+        let enough = w.enough in
+        let closed = subst (λ d. Closed o (params_at o gs answers) d n next held after answers later) e c in
+        let known' = subst (Known o Γ gs) (sym w.answers_are) (still_known o Γ gs ns i n next t base start (next + binders (head t)) (each_inner o Γ n (head t) 0 (kids t)) params (omega arith) (omega arith) known) in
+        (closed_row o Γ gs ns i n next t base start binder held answers w after later known' fit closed, closed_answers o Γ gs ns i n next t base start binder held answers w after later closed)

@@ -164,7 +164,7 @@ Known o Γ gs xs = (l j : ℕ) → l < length gs → j < length (params_of (slic
 pub record LegReady (ns : List Row) (lower : List FlatLeg) (g : FlatLeg) : Type 0 where
   pub within : g.first < length ns
   pub few_nodes : node_size (term_at ns g.first) ≤ max_nodes
-  pub few_params : g.count ≤ max_params
+  pub few_params : length (params_of g) ≤ max_params
   pub fit : Fit lower (length (params_of g)) (term_at ns g.first)
   pub numbered : g.binder.index ≡ legs_binders (turned [] (legs_in ns lower))
 

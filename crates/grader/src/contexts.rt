@@ -1,12 +1,13 @@
 // A stack of contexts over a lent slice of grades, for any scale.
-ghost use Rattle.std.specs.Prelude.{◌≡◌, ℕ, ◌+◌, ◌-◌, ◌<◌, ◌≤◌, List, ◌++◌, length, slice_index_or};
+ghost use Rattle.std.specs.Prelude.{◌≡◌, ℕ, ◌+◌, ◌<◌, ◌≤◌, List, [], ◌++◌, length, take, drop, slice_index_or};
 ghost use Rattle.scales.specs.Rows.{row_plus, row_join, row_times, row_zero};
 ghost use Rattle.grading.specs.Grading.{one_of};
 ghost use Rattle.grading.specs.Least.{from_0};
-ghost use Rattle.grader.specs.Stack.{held, room, Folded};
+ghost use Rattle.grader.specs.Stack.{room};
 
-use scales::rows::scale_into;
+use scales::rows::{add_into, join_into, scale_into};
 use scales::scale::Scale;
+use std::marker::Model;
 
 // The contexts of the expressions that are graded and not yet used, one behind the other.
 #[derive(Drop)]
@@ -15,110 +16,115 @@ pub struct Contexts<'a, G> {
     used: usize,
 }
 
-// Sets every grade to zero.
+// Clauses see the grades on the stack, and those in the places above it.
+impl<'a, G> Model for Contexts<'a, G> {
+    ghost use Rattle.std.specs.Prelude.{◌≤◌, length, take, drop};
+    ghost use Rattle.grader.specs.Stack.{Stack};
+
+    ghost Value = { Stack G };
+
+    ghost view = { λ c. record { held = take c.used c.places.now; free = drop c.used c.places.now } };
+
+    ghost invariant = { λ c. c.used ≤ length c.places.now };
+}
+
+// Sets every grade to zero. A scale does not say that its clone never fails, which the library's `fill` asks for.
 fn clear<G: Scale>(row: &mut [G])
     ensures { row.new ≡ row_zero G.ops (length row.old) }
 {
-    for i in 0..row.len() {
-        row[i] = G::zero();
+    for grade in row {
+        *grade = G::zero();
     }
 }
 
-// Adds the grades `width` places further on to those from `at` on.
-fn add_down<G: Scale>(places: &mut [G], at: usize, width: usize)
-    requires { at + width + width ≤ length places.old }
-    ensures { Folded G.ops.plus at width width places.old places.new }
+// Adds the grades from `width` on to the first ones.
+fn add_rest<G: Scale>(grades: &mut [G], width: usize)
+    requires { width ≤ length grades.old }
+    ensures { grades.new ≡ row_plus G.ops (take width grades.old) (drop width grades.old) ++ drop width grades.old }
 {
-    for i in 0..width {
-        let low = at + i;
-        places[low] = places[low].add(places[low + width]);
-    }
+    let (row, rest) = grades.split_at_mut(width);
+    add_into(row, rest);
 }
 
-// Joins the grades `width` places further on to those from `at` on.
-fn join_down<G: Scale>(places: &mut [G], at: usize, width: usize)
-    requires { at + width + width ≤ length places.old }
-    ensures { Folded G.ops.join at width width places.old places.new }
+// Joins the grades from `width` on to the first ones.
+fn join_rest<G: Scale>(grades: &mut [G], width: usize)
+    requires { width ≤ length grades.old }
+    ensures { grades.new ≡ row_join G.ops (take width grades.old) (drop width grades.old) ++ drop width grades.old }
 {
-    for i in 0..width {
-        let low = at + i;
-        places[low] = places[low].join(places[low + width]);
-    }
-}
-
-fn grade_at<G: Scale>(places: &[G], at: usize) -> G
-    requires { at < length places.now }
-    ensures { (d : G) → result ≡ slice_index_or places.now at d }
-{
-    places[at]
+    let (row, rest) = grades.split_at_mut(width);
+    join_into(row, rest);
 }
 
 impl<'a, G: Scale> Contexts<'a, G> {
     // An empty stack.
     pub fn new(places: &'a mut [G]) -> Contexts<'a, G>
-        ensures { (result.used ≡ 0) × (result.places.now ≡ places.old) }
+        ensures held { result.held ≡ [] }
+        ensures free { result.free ≡ places.old }
     {
         Contexts { places, used: 0 }
     }
 
+    // The grades on the stack, the topmost context last.
+    pub fn held(&self) -> &[G]
+        ensures { result.now ≡ self.now.held }
+    {
+        &self.places[..self.used]
+    }
+
     // A context with no use on top.
     pub fn push_none(&mut self, width: usize)
-        requires { self.old.used + width ≤ room self.old }
-        ensures held { held self.new ≡ held self.old ++ row_zero G.ops width }
-        ensures used { self.new.used ≡ self.old.used + width }
+        requires { length self.old.held + width ≤ room self.old }
+        ensures held { self.new.held ≡ self.old.held ++ row_zero G.ops width }
         ensures room { room self.new ≡ room self.old }
     {
         let at = self.used;
-        clear(&mut self.places[at..at + width]);
-        self.used = at + width;
+        self.used += width;
+        clear(&mut self.places[at..self.used]);
     }
 
     // A context with one use of one level on top.
     pub fn push_one(&mut self, width: usize, level: usize)
-        requires room { self.old.used + width ≤ room self.old }
+        requires room { length self.old.held + width ≤ room self.old }
         requires level { level < width }
-        ensures held { held self.new ≡ held self.old ++ from_0 width (one_of G.ops level) }
-        ensures used { self.new.used ≡ self.old.used + width }
+        ensures held { self.new.held ≡ self.old.held ++ from_0 width (one_of G.ops level) }
         ensures room { room self.new ≡ room self.old }
     {
         let at = self.used;
-        self.push_none(width);
-        self.places[at + level] = G::one();
+        self.used += width;
+        let row = &mut self.places[at..self.used];
+        clear(row);
+        row[level] = G::one();
     }
 
     // Takes the topmost context, `top` wide, off and adds it to the one below, `width` wide.
     pub fn add_top(&mut self, width: usize, top: usize)
-        requires wide { width ≤ top }
-        requires there { width + top ≤ self.old.used }
-        requires fits { self.old.used ≤ room self.old }
-        ensures held { (h a b : List G) → length a ≡ width → length b ≡ top → held self.old ≡ h ++ (a ++ b) → held self.new ≡ h ++ row_plus G.ops a b }
-        ensures used { self.new.used + top ≡ self.old.used }
+        requires { width + top ≤ length self.old.held }
+        ensures held { (h a b : List G) → length a ≡ width → length b ≡ top → self.old.held ≡ h ++ (a ++ b) → self.new.held ≡ h ++ row_plus G.ops a b }
+        ensures used { length self.new.held + top ≡ length self.old.held }
         ensures room { room self.new ≡ room self.old }
     {
-        let at = self.used - top;
-        add_down(self.places, at - width, width);
-        self.used = at;
+        let at = self.used - top - width;
+        add_rest(&mut self.places[at..self.used], width);
+        self.used -= top;
     }
 
     // Takes the topmost context off and joins it to the one below, which is as wide.
     pub fn join_top(&mut self, width: usize)
-        requires there { width + width ≤ self.old.used }
-        requires fits { self.old.used ≤ room self.old }
-        ensures held { (h a b : List G) → length a ≡ width → length b ≡ width → held self.old ≡ h ++ (a ++ b) → held self.new ≡ h ++ row_join G.ops a b }
-        ensures used { self.new.used + width ≡ self.old.used }
+        requires { width + width ≤ length self.old.held }
+        ensures held { (h a b : List G) → length a ≡ width → length b ≡ width → self.old.held ≡ h ++ (a ++ b) → self.new.held ≡ h ++ row_join G.ops a b }
+        ensures used { length self.new.held + width ≡ length self.old.held }
         ensures room { room self.new ≡ room self.old }
     {
-        let at = self.used - width;
-        join_down(self.places, at - width, width);
-        self.used = at;
+        let at = self.used - width - width;
+        join_rest(&mut self.places[at..self.used], width);
+        self.used -= width;
     }
 
     // Scales the context below the topmost one.
     pub fn scale_below(&mut self, by: G, width: usize, top: usize)
-        requires there { width + top ≤ self.old.used }
-        requires fits { self.old.used ≤ room self.old }
-        ensures held { (h a b : List G) → length a ≡ width → length b ≡ top → held self.old ≡ h ++ (a ++ b) → held self.new ≡ h ++ (row_times G.ops by a ++ b) }
-        ensures used { self.new.used ≡ self.old.used }
+        requires { width + top ≤ length self.old.held }
+        ensures held { (h a b : List G) → length a ≡ width → length b ≡ top → self.old.held ≡ h ++ (a ++ b) → self.new.held ≡ h ++ (row_times G.ops by a ++ b) }
+        ensures used { length self.new.held ≡ length self.old.held }
         ensures room { room self.new ≡ room self.old }
     {
         let at = self.used - top;
@@ -127,11 +133,10 @@ impl<'a, G: Scale> Contexts<'a, G> {
 
     // The grade of a level in the topmost context.
     pub fn grade(&self, top: usize, level: usize) -> G
-        requires there { top ≤ self.now.used }
+        requires there { top ≤ length self.now.held }
         requires level { level < top }
-        requires fits { self.now.used ≤ room self.now }
-        ensures { (h b : List G) (d : G) → length b ≡ top → held self.now ≡ h ++ b → result ≡ slice_index_or b level d }
+        ensures { (h b : List G) (d : G) → length b ≡ top → self.now.held ≡ h ++ b → result ≡ slice_index_or b level d }
     {
-        grade_at(self.places, self.used - top + level)
+        self.places[self.used - top + level]
     }
 }

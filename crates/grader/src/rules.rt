@@ -1,9 +1,8 @@
 // The rules of grading, one node at a time: a node's context from those of its kids, which stand on top of the stack.
-ghost use Rattle.std.specs.Prelude.{◌≡◌, ℕ, ◌+◌, ◌<◌, ◌≤◌, List, ◌++◌, length, slice_index_or};
-ghost use Rattle.plan.specs.declared.Node.TheVariants.{Call};
+ghost use Rattle.std.specs.Prelude.{◌≡◌, ℕ, ◌+◌, ◌≤◌, ◌++◌, length, slice_index_or};
 ghost use Rattle.plan.specs.Kinds.{binders};
-ghost use Rattle.grader.specs.Stack.{held, room};
-ghost use Rattle.grader.specs.Walk.{KidsOn, RowsOn, kid_width, inner_width, node_row, call_row, own_grades, put, HeadFit, Closed, ParamsIn, params_at};
+ghost use Rattle.grader.specs.Stack.{room};
+ghost use Rattle.grader.specs.Walk.{KidsOn, RowsOn, kid_width, call_row, HeadFit, Closed, ParamsIn, params_at};
 
 use crate::contexts::Contexts;
 use plan::{Leg, Node};
@@ -14,44 +13,24 @@ pub fn kid_width(node: Node, width: usize, k: usize) -> usize
     requires { width ≤ 16 }
     ensures { result ≡ kid_width width node k }
 {
-    if k == 0 {
-        width
-    } else {
-        inner_width(node, width)
-    }
-}
-
-fn inner_width(node: Node, width: usize) -> usize
-    requires { width ≤ 16 }
-    ensures { result ≡ inner_width width node }
-{
-    match node {
-        Node::Let(_) | Node::Take(_) | Node::Case(_) => width + 1,
-        Node::Split(_) => width + 2,
+    match (node, k) {
+        (_, 0) => width,
+        (Node::Let(_) | Node::Take(_) | Node::Case(_), _) => width + 1,
+        (Node::Split(_), _) => width + 2,
         _ => width,
     }
 }
 
-// The context of a call: the sum of the arguments', each scaled by its parameter's grade. The parameters' grades stand from `first` on.
-fn close_call<S: Scale>(
-    count: usize,
-    first: usize,
-    width: usize,
-    contexts: &mut Contexts<S>,
-    answers: &[S],
-)
-    requires kids { RowsOn (held contexts.old) count (λ k. width) }
-    requires room { contexts.old.used + width ≤ room contexts.old }
-    requires known { first + count ≤ length answers.now }
-    ensures held { (k : RowsOn (held contexts.old) count (λ k. width)) → held contexts.new ≡ k.base ++ call_row S.ops (λ j. slice_index_or answers.now (first + j) S.ops.zero) 0 width k.rows }
+// The context of a call: the sum of the arguments', each scaled by its parameter's grade.
+fn close_call<S: Scale>(grades: &[S], width: usize, contexts: &mut Contexts<S>)
+    requires kids { RowsOn contexts.old.held (length grades.now) (λ k. width) }
+    requires room { length contexts.old.held + width ≤ room contexts.old }
+    ensures held { (k : RowsOn contexts.old.held (length grades.now) (λ k. width)) → contexts.new.held ≡ k.base ++ call_row S.ops (λ j. slice_index_or grades.now j S.ops.zero) 0 width k.rows }
     ensures room { room contexts.new ≡ room contexts.old }
-    ensures fits { contexts.new.used ≤ room contexts.new }
 {
     contexts.push_none(width);
-    let mut j = count;
-    while j > 0 {
-        j -= 1;
-        contexts.scale_below(answers[first + j], width, width);
+    for grade in grades.iter().rev() {
+        contexts.scale_below(*grade, width, width);
         contexts.add_top(width, width);
     }
 }
@@ -65,38 +44,35 @@ pub fn close<S: Scale>(
     contexts: &mut Contexts<S>,
     answers: &mut [S],
 )
-    requires kids { KidsOn (held contexts.old) node width }
-    requires room { contexts.old.used + width ≤ room contexts.old }
+    requires kids { KidsOn contexts.old.held node width }
+    requires room { length contexts.old.held + width ≤ room contexts.old }
     requires width { width ≤ 16 }
     requires head { HeadFit legs.now width node }
     requires binders { next + binders node ≤ length answers.old }
     requires known { ParamsIn legs.now (length answers.old) }
-    ensures closed { Closed S.ops (params_at S.ops legs.now answers.old) node width next (held contexts.old) (held contexts.new) answers.old answers.new }
+    ensures closed { Closed S.ops (params_at S.ops legs.now answers.old) node width next contexts.old.held contexts.new.held answers.old answers.new }
     ensures room { room contexts.new ≡ room contexts.old }
-    ensures fits { contexts.new.used ≤ room contexts.new }
 {
     match node {
-        Node::Unit => contexts.push_none(width),
-        Node::Number(_) => contexts.push_none(width),
+        Node::Unit | Node::Number(_) => contexts.push_none(width),
         Node::Name(level) => contexts.push_one(width, level.index as usize),
+        Node::Left(_) | Node::Right(_) => {}
+        Node::Pair | Node::Add | Node::Less => contexts.add_top(width, width),
         Node::Let(_) => {
-            let r = contexts.grade(width + 1, width);
-            answers[next] = r;
-            contexts.scale_below(r, width, width + 1);
+            let grade = contexts.grade(width + 1, width);
+            answers[next] = grade;
+            contexts.scale_below(grade, width, width + 1);
             contexts.add_top(width, width + 1);
         }
         Node::Take(_) => {
             answers[next] = contexts.grade(width + 1, width);
             contexts.add_top(width, width + 1);
         }
-        Node::Pair => contexts.add_top(width, width),
         Node::Split(_) => {
             answers[next] = contexts.grade(width + 2, width);
             answers[next + 1] = contexts.grade(width + 2, width + 1);
             contexts.add_top(width, width + 2);
         }
-        Node::Left(_) => {}
-        Node::Right(_) => {}
         Node::Case(_) => {
             answers[next] = contexts.grade(width + 1 + width + 1, width);
             answers[next + 1] = contexts.grade(width + 1, width);
@@ -105,9 +81,7 @@ pub fn close<S: Scale>(
         }
         Node::Call(leg, count) => {
             let first = legs[leg.index as usize].binder.index as usize;
-            close_call(count as usize, first, width, contexts, answers);
+            close_call(&answers[first..first + count as usize], width, contexts);
         }
-        Node::Add => contexts.add_top(width, width),
-        Node::Less => contexts.add_top(width, width),
     }
 }

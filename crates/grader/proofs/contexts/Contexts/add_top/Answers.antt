@@ -1,16 +1,17 @@
-use Rattle.std.proofs.Common.{◌-◌, arith}
-use Rattle.grader.proofs.Merging.{merged_at}
+use Rattle.std.proofs.Common.{◌+◌, ◌-◌, ◌≤◌, length, ap, ◌∙◌, arith}
+use Rattle.std.proofs.lemmas.List.{length-take-le}
+use Rattle.grader.proofs.Merging.{merged}
 use Rattle.grader.proofs.contexts.Contexts.add_top.Goals as goal
 
-pub returns : goal.returns
-returns g c =
-    let s = c.args.self.now in
+pub returns-clause-held : goal.returns-clause-held
+returns-clause-held g c h a b ea eb is =
+    let s = c.self.inside in
     let n = c.args.width in
     let m = c.args.top in
-    let there = c.requires.there in
-    let fold = c.add_down.ensures in
-    record {
-      held = merged_at g.G.Scale.ops.plus s.places.now c.add_down.new.places s.used n m (s.used - m - n) (s.used - m) c.requires.fits (omega arith) (omega arith) c.requires.wide fold;
-      used = omega arith;
-      room = fold.long;
-    }
+    let there = c.requires in
+    let held_is = ap (λ v. v.held) c.self.view_is in
+    let fits = c.self.invariant in
+    let both = ap length held_is in
+    let long = length-take-le s.used s.places.now fits in
+    let deep : n + m ≤ s.used = omega arith in
+    merged g.G.Scale.ops.plus s.places.now c.add_rest.new.grades s.used n m (s.used - m - n) (s.used - (s.used - m - n)) (s.used - m) fits (omega arith) (omega arith) (omega arith) c.add_rest.ensures h a b ea eb (held_is ∙ is)
