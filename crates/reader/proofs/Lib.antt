@@ -1,8 +1,8 @@
 mod Exact
 mod Nodes
 pub mod Accept
-mod Slices
+mod Calls
 mod Loops
 mod Legs
 mod Whole
-pub mod Drafts
+mod Drafts

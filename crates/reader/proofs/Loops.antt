@@ -1,5 +1,5 @@
 -- One turn of a loop that reads many things. Assumes nothing.
-use Rattle.std.proofs.Common.{◌≡◌, ℕ, zero, suc, ◌+◌, ◌-◌, ◌<◌, ◌≤◌, List, [], ◌∷◌, ◌++◌, Ok, Err, sym, refl, ap, ◌∙◌, append_assoc, append-nil, arith}
+use Rattle.std.proofs.Common.{◌≡◌, ℕ, zero, suc, ◌+◌, ◌-◌, ◌<◌, List, [], ◌∷◌, ◌++◌, Ok, Err, sym, refl, ap, ◌∙◌, append_assoc, arith}
 use Rattle.plan.specs.declared.faults.ReadFault.{ReadFault}
 use Rattle.reader.specs.Reading.{Got, then_read, many}
 
@@ -7,10 +7,6 @@ use Rattle.reader.specs.Reading.{Got, then_read, many}
 abbrev pub front : {X : Type 0} → List X → Got (List X) → Got (List X)
 front xs (Ok p) = Ok (xs ++ p.0, p.1)
 front xs (Err e) = Err e
-
-front_none : {X : Type 0} (g : Got (List X)) → front [] g ≡ g
-front_none (Ok p) = refl
-front_none (Err e) = refl
 
 front_more : {X : Type 0} (xs : List X) (x : X) (g : Got (List X)) → front xs (then_read g (λ ys rest. Ok (x ∷ ys, rest))) ≡ front (xs ++ (x ∷ [])) g
 front_more xs x (Ok p) = ap (λ l. Ok (l, p.1)) (sym (append_assoc xs (x ∷ []) p.0))
@@ -20,9 +16,6 @@ module _ {X S : Type 0} (next : S → X → S) (P : S → List ℕ → Got X) (c
   -- so many are read, and the others are still to come
   abbrev pub Left : ℕ → S → List ℕ → List X → Type 0
   Left i s rest out = many next P count start bytes ≡ front out (many next P (count - i) s rest)
-
-  pub left_begins : (i : ℕ) → i ≡ 0 → Left i start bytes []
-  left_begins i e = ap (λ n. many next P n start bytes) (let z : count ≡ count - i = omega arith in z) ∙ sym (front_none (many next P (count - i) start bytes))
 
   unrolled : (n : ℕ) (s : S) (rest : List ℕ) → 0 < n → many next P n s rest ≡ then_read (P s rest) (λ x r. then_read (many next P (n - 1) (next s x) r) (λ xs r'. Ok (x ∷ xs, r')))
   unrolled zero s rest h = absurd (omega arith)
@@ -40,7 +33,3 @@ module _ {X S : Type 0} (next : S → X → S) (P : S → List ℕ → Got X) (c
 
   pub left_fails : (i : ℕ) (s : S) (rest : List ℕ) (out : List X) (f : ReadFault) → i < count → Left i s rest out → P s rest ≡ Err f → many next P count start bytes ≡ Err f
   left_fails i s rest out f lt l e = at_one i s rest out (Err f) lt l e
-
-  pub left_ends : (i : ℕ) (s : S) (rest : List ℕ) (out : List X) → count ≤ i → Left i s rest out → many next P count start bytes ≡ Ok (out, rest)
-  left_ends i s rest out le l =
-      l ∙ ap (λ n. front out (many next P n s rest)) (let z : count - i ≡ 0 = omega arith in z) ∙ ap (λ k. Ok (k, rest)) (append-nil out)

@@ -1,10 +1,22 @@
 // The bytes of a plan, read from the front.
-ghost use Rattle.std.specs.Prelude.{◌≤◌, length};
+ghost use Rattle.std.specs.Prelude.{◌≡◌, ◌≤◌, cond, nat_lt, length, Some, None};
+ghost use Rattle.plan.specs.Trees.{the_type};
 
 use plan::TypeId;
 use plan::faults::ReadFault;
 use plan::kinds::{Field, NodeKind, shape_of};
 use plan::limits::MAX_NODES;
+
+// The type of a number, if it is below `types`.
+pub(crate) fn type_below(types: usize, index: u8) -> Option<TypeId>
+    ensures { result ≡ cond (nat_lt index types) (Some (the_type index)) None }
+{
+    if usize::from(index) < types {
+        Some(TypeId { index })
+    } else {
+        None
+    }
+}
 
 // The bytes that are left of so many in all. A place is the number of bytes in front of it.
 #[derive(Drop)]
@@ -57,12 +69,7 @@ impl<'a> Input<'a> {
         ensures { Reads (λ all. read_type all types) self.old self.new result }
     {
         let at = self.place();
-        let index = self.byte()?;
-        if usize::from(index) < types {
-            Ok(TypeId { index })
-        } else {
-            Err(ReadFault::Ref(at))
-        }
+        type_below(types, self.byte()?).ok_or(ReadFault::Ref(at))
     }
 
     // A count of one byte, from `low` to `high`.

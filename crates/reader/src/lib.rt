@@ -25,8 +25,8 @@ fn read_into(draft: &mut Draft, bytes: &[u8]) -> Result<(), ReadFault>
         return Err(ReadFault::Limit(MAX_BYTES));
     }
     let mut input = Input::new(bytes);
-    draft.front(&mut input)?;
-    draft.legs(&mut input)?;
+    draft.read_front(&mut input)?;
+    draft.read_legs(&mut input)?;
     if !input.is_empty() {
         return Err(ReadFault::Tail(input.place()));
     }

@@ -40,7 +40,7 @@ fn close_leg(nodes: &mut Vec<Row>, first: usize) -> bool
 
 impl Draft {
     // A leg, its nodes behind those of the legs before it.
-    fn leg(&mut self, input: &mut Input<'_>) -> Result<Leg, ReadFault>
+    fn read_leg(&mut self, input: &mut Input<'_>) -> Result<Leg, ReadFault>
         requires low { self.old.next ≤ 640 }
         requires stands { Standing 0 self.old.nodes.items }
         ensures { LegAnswer self.old self.new input.old input.new result }
@@ -53,7 +53,7 @@ impl Draft {
         let body = input.place();
         let size = input.node_count(first)?;
         self.next += params.len() as u16;
-        self.nodes(input, size)?;
+        self.read_nodes(input, size)?;
         if !close_leg(&mut self.nodes, first) {
             return Err(ReadFault::Shape(body));
         }
@@ -66,7 +66,7 @@ impl Draft {
     }
 
     // The legs, and their nodes one behind the other.
-    pub(crate) fn legs(&mut self, input: &mut Input<'_>) -> Result<(), ReadFault>
+    pub(crate) fn read_legs(&mut self, input: &mut Input<'_>) -> Result<(), ReadFault>
         requires no_legs { self.old.legs.items ≡ [] }
         requires no_nodes { self.old.nodes.items ≡ [] }
         requires no_binders { self.old.next ≡ 0 }
@@ -74,7 +74,7 @@ impl Draft {
     {
         let count = input.count(1, usize::from(MAX_LEGS))?;
         for _ in 0..count {
-            let leg = self.leg(input)?;
+            let leg = self.read_leg(input)?;
             self.legs.push_reserved(leg);
         }
         Ok(())

@@ -47,7 +47,7 @@ fn read_entry(input: &mut Input<'_>, table: &[Type]) -> Result<Type, ReadFault>
 
 impl Draft {
     // The entries behind the types that each plan has.
-    fn table(&mut self, input: &mut Input<'_>) -> Result<(), ReadFault>
+    fn read_table(&mut self, input: &mut Input<'_>) -> Result<(), ReadFault>
         requires { self.old.types.items ≡ built_in }
         ensures { TableRead self.old self.new input.old input.new result }
     {
@@ -60,7 +60,7 @@ impl Draft {
     }
 
     // The map of the fields, and the table of types if there is one.
-    pub(crate) fn front(&mut self, input: &mut Input<'_>) -> Result<(), ReadFault>
+    pub(crate) fn read_front(&mut self, input: &mut Input<'_>) -> Result<(), ReadFault>
         requires { self.old.types.items ≡ [] }
         ensures { FrontRead self.old self.new input.old input.new result }
     {
@@ -71,7 +71,7 @@ impl Draft {
         let at = input.place();
         match input.byte()? {
             4 => Ok(()),
-            6 => self.table(input),
+            6 => self.read_table(input),
             _ => Err(ReadFault::Bits(at)),
         }
     }

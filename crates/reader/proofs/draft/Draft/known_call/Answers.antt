@@ -1,7 +1,7 @@
 use Rattle.std.proofs.Common.{◌∙◌, ap, Some, rules, arith}
 use Rattle.plan.specs.declared.Node.TheVariants.{Call}
 use Rattle.plan.specs.Trees.{the_leg}
-use Rattle.reader.proofs.Slices.{call_there, call_not}
+use Rattle.reader.proofs.Calls.{call_there, call_not}
 use Rattle.reader.proofs.draft.Draft.known_call.Goals as goal
 
 pub returns-in_err-leg : goal.returns-in_err-leg

@@ -5,7 +5,7 @@ use Rattle.plan.specs.Written.{with_entry, built_in}
 use Rattle.reader.specs.Reading.{then_read, many, byte_if, between, read_entry}
 use Rattle.reader.proofs.Drafts.{entry_same}
 use Rattle.reader.proofs.Loops.{Left, left_next, left_fails}
-use Rattle.reader.proofs.draft.Draft.table.Goals as goal
+use Rattle.reader.proofs.draft.Draft.read_table.Goals as goal
 
 pub returns-in_err-entry : goal.returns-in_err-entry
 returns-in_err-entry c =

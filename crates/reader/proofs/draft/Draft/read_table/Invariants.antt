@@ -4,7 +4,7 @@ use Rattle.plan.specs.Written.{with_entry, built_in}
 use Rattle.reader.specs.Reading.{read_entry}
 use Rattle.reader.specs.Replies.{OnlyTypes}
 use Rattle.reader.proofs.Loops.{Left}
-use Rattle.reader.proofs.draft.Draft.table.Given as goal
+use Rattle.reader.proofs.draft.Draft.read_table.Given as goal
 
 abbrev pub invariant-loop : goal.invariant-loop
 invariant-loop l =

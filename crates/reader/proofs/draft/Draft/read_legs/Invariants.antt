@@ -5,7 +5,7 @@ use Rattle.plan.specs.Plans.{legs_in}
 use Rattle.reader.specs.Reading.{read_leg}
 use Rattle.reader.specs.Replies.{before_of}
 use Rattle.reader.proofs.Loops.{Left}
-use Rattle.reader.proofs.draft.Draft.legs.Given as goal
+use Rattle.reader.proofs.draft.Draft.read_legs.Given as goal
 
 abbrev pub invariant-loop : goal.invariant-loop
 invariant-loop l =

@@ -12,7 +12,7 @@ use Rattle.reader.specs.Replies.{before_of}
 use Rattle.reader.proofs.Drafts.{leg_same, leg_read_same}
 use Rattle.reader.proofs.Legs.{legs_kept, order_push, state_next, binders_bound}
 use Rattle.reader.proofs.Loops.{Left, left_next, left_fails}
-use Rattle.reader.proofs.draft.Draft.legs.Goals as goal
+use Rattle.reader.proofs.draft.Draft.read_legs.Goals as goal
 
 pub returns-in_err-leg : goal.returns-in_err-leg
 returns-in_err-leg c =
@@ -34,12 +34,12 @@ loop-preserved c =
     let gs = vec_items d.legs in
     let g = c.in_ok-leg.leg in
     let before = vec_items d.nodes in
-    let after = vec_items c.leg.new.self.nodes in
+    let after = vec_items c.read_leg.new.self.nodes in
     let all = c.args.input.now.all in
     let types = vec_len c.args.self.now.types in
     let rest = c.loop.input.rest.now in
-    let then = c.leg.new.input.rest.now in
-    let next = c.leg.new.self.next in
+    let then = c.read_leg.new.input.rest.now in
+    let next = c.read_leg.new.self.next in
     let A = c.in_ok-leg.ensures in
     let L = leg_read_same c.loop.input.all all (vec_len d.types) types gs d.next rest before after g next then v.same_all (ap vec_len v.same_types) A.0 in
     let items = c.push_reserved.ensures.items ∙ ap (λ l. vec_items l ++ (g ∷ [])) A.3 in
@@ -55,7 +55,7 @@ loop-preserved c =
     let low = v.low in
     let bound = binders_bound (d.next + length (params_of g)) (flat body) in
     let lb : vec_len d.nodes ≡ length before = search rules in
-    let la : vec_len c.leg.new.self.nodes ≡ length after = search rules in
+    let la : vec_len c.read_leg.new.self.nodes ≡ length after = search rules in
     record {
       length_is = c.push_reserved.ensures.len ∙ ap (λ k. k + 1) (ap vec_len A.3 ∙ v.length_is);
       low = omega arith;

@@ -5,7 +5,7 @@ use Rattle.plan.specs.Written.{with_node, binders_in}
 use Rattle.reader.specs.Reading.{read_node}
 use Rattle.reader.specs.Replies.{arities_of}
 use Rattle.reader.proofs.Loops.{Left}
-use Rattle.reader.proofs.draft.Draft.nodes.Given as goal
+use Rattle.reader.proofs.draft.Draft.read_nodes.Given as goal
 
 abbrev pub invariant-loop : goal.invariant-loop
 invariant-loop l =

@@ -8,7 +8,7 @@ use Rattle.reader.specs.Replies.{arities_of}
 use Rattle.reader.proofs.Drafts.{node_same}
 use Rattle.reader.proofs.Loops.{Left, left_next, left_fails}
 use Rattle.plan.proofs.Ends.{nodes_push, binders_push}
-use Rattle.reader.proofs.draft.Draft.nodes.Goals as goal
+use Rattle.reader.proofs.draft.Draft.read_nodes.Goals as goal
 
 pub returns-in_err-node : goal.returns-in_err-node
 returns-in_err-node c =
@@ -35,7 +35,7 @@ loop-preserved c =
     let few = c.binders_of.ensures.few in
     let v_few = v.few in
     let next = c.loop.self.next in
-    let then = c.node.new.input.rest.now in
+    let then = c.read_node.new.input.rest.now in
     let at : read_node i.all types arities next c.loop.input.rest.now ≡ Ok (node, then) = node_same d c.loop.self c.loop.input.all i.all c.loop.input.rest.now _ v.same_types v.same_legs v.same_all e.0 in
     let more : with_node next node ≡ next + c.binders_of.result = ap (λ b. next + b) (sym c.binders_of.ensures.is) in
     let len = length-append old (row ∷ []) in
