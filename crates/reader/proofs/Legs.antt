@@ -33,14 +33,17 @@ single_gives at (some (t ∷ [])) r e = (refl, refl)
 single_gives at (some (t ∷ u ∷ ts)) r e = absurd (let z : ◌≡◌ {A = ℕ} 0 1 = cc in omega arith)
 
 module _ (all types : ℕ) (gs : List FlatLeg) (binder : ℕ) (before new : List Row) (bs r1 r2 r3 r4 : List ℕ) (ps : List TypeId) (k : ℕ) (y : TypeId) (n : ℕ)
-    (all1 all2 all3 : ℕ) (q1 : all1 ≡ all) (q2 : all2 ≡ all1) (q3 : all3 ≡ all2)
-    (e1 : read_params all types bs ≡ Ok (ps, r1)) (e2 : read_type all1 types r1 ≡ Ok (y, r2)) (e3 : read_count all2 (length before) r2 ≡ Ok (n, r3))
-    (ek : k ≡ length ps) (e4 : many with_node (read_node all3 types (arities_of gs)) n (binder + k) r3 ≡ Ok (nodes_of new, r4)) where
+    (all1 all2 all3 types0 first : ℕ) (q1 : all1 ≡ all) (q2 : all2 ≡ all1) (q3 : all3 ≡ all2) (qt : types0 ≡ types) (qf : first ≡ length before) (ek : k ≡ length ps)
+    (e1 : read_params all types0 bs ≡ Ok (ps, r1)) (e2 : read_type all1 types0 r1 ≡ Ok (y, r2)) (e3 : read_count all2 first r2 ≡ Ok (n, r3))
+    (e4 : many with_node (read_node all3 types (arities_of gs)) n (binder + k) r3 ≡ Ok (nodes_of new, r4)) where
+  then_params : read_params all types bs ≡ Ok (ps, r1)
+  then_params = subst (λ t. read_params all t bs ≡ Ok (ps, r1)) qt e1
+
   then_type : read_type all types r1 ≡ Ok (y, r2)
-  then_type = subst (λ a. read_type a types r1 ≡ Ok (y, r2)) q1 e2
+  then_type = subst (λ a. read_type a types r1 ≡ Ok (y, r2)) q1 (subst (λ t. read_type all1 t r1 ≡ Ok (y, r2)) qt e2)
 
   then_count : read_count all (length before) r2 ≡ Ok (n, r3)
-  then_count = subst (λ a. read_count a (length before) r2 ≡ Ok (n, r3)) (q2 ∙ q1) e3
+  then_count = subst (λ a. read_count a (length before) r2 ≡ Ok (n, r3)) (q2 ∙ q1) (subst (λ u. read_count all2 u r2 ≡ Ok (n, r3)) qf e3)
 
   then_nodes : many with_node (read_node all types (arities_of gs)) n (binder + k) r3 ≡ Ok (nodes_of new, r4)
   then_nodes = subst (λ a. many with_node (read_node a types (arities_of gs)) n (binder + k) r3 ≡ Ok (nodes_of new, r4)) (q3 ∙ q2 ∙ q1) e4
@@ -55,21 +58,29 @@ module _ (all types : ℕ) (gs : List FlatLeg) (binder : ℕ) (before new : List
 
   leg_is : read_leg all types (before_of gs binder before) bs ≡ then_read (single (all - length r2) (stack (nodes_of new)) r4) made
   leg_is =
-      ap (λ g. then_read g (λ ps r. then_read (read_type all types r) (λ y r'. then_read (read_body all types (before_of gs binder before) (binder + length ps) r') (λ t r''. Ok (record { params = ps; result = y; first = binder; body = t }, r''))))) e1
+      ap (λ g. then_read g (λ ps r. then_read (read_type all types r) (λ y r'. then_read (read_body all types (before_of gs binder before) (binder + length ps) r') (λ t r''. Ok (record { params = ps; result = y; first = binder; body = t }, r''))))) then_params
       ∙ ap (λ g. then_read g (λ y r'. then_read (read_body all types (before_of gs binder before) (binder + length ps) r') (λ t r''. Ok (record { params = ps; result = y; first = binder; body = t }, r'')))) then_type
       ∙ ap (λ g. then_read g made) body_is
 
   behind_is : drop (length before) (nodes_of (before ++ new)) ≡ nodes_of new
   behind_is = ap (drop (length before)) (nodes_append before new) ∙ drop_at (nodes_of before) (nodes_of new) (length before) (nodes_length before)
 
-  pub leg_fails : (after : List Row) (r : Bool) → r ≡ false → Closed (length before) (before ++ new) after r → read_leg all types (before_of gs binder before) bs ≡ Err (NotOne (all - length r2))
-  leg_fails after r q c =
-      leg_is ∙ ap (λ g. then_read g made) (single_fails (all - length r2) (stack (nodes_of new)) r4 (ap (λ os. is_one (stack os)) (sym behind_is) ∙ sym c.one ∙ q))
+  whole : (between after : List Row) (r : Bool) → between ≡ before ++ new → Closed first between after r → Closed (length before) (before ++ new) after r
+  whole between after r e c = subst (λ b. Closed (length before) b after r) e (subst (λ f. Closed f between after r) qf c)
 
-  pub leg_made : (after : List Row) (r : Bool) (g : FlatLeg) (next : ℕ) → r ≡ true → Closed (length before) (before ++ new) after r → Standing 0 before
-      → params_of g ≡ ps → g.result ≡ y → g.binder.index ≡ binder → k ≤ 8 → g.first ≡ length before → next ≡ binders_in (binder + k) (nodes_of new)
+  pub leg_fails : (between after : List Row) (r : Bool) (at : ℕ) → r ≡ false → between ≡ before ++ new → Closed first between after r → at ≡ all2 - length r2
+      → read_leg all types (before_of gs binder before) bs ≡ Err (NotOne at)
+  leg_fails between after r at q e c p =
+      let one = (whole between after r e c).one in
+      leg_is ∙ ap (λ g. then_read g made) (single_fails (all - length r2) (stack (nodes_of new)) r4 (ap (λ os. is_one (stack os)) (sym behind_is) ∙ sym one ∙ q))
+      ∙ ap (λ x. Err (NotOne x)) (ap (λ a. a - length r2) (sym (q2 ∙ q1)) ∙ sym p)
+
+  pub leg_made : (between after : List Row) (r : Bool) (g : FlatLeg) (next : ℕ) → r ≡ true → between ≡ before ++ new → Closed first between after r → Standing 0 before
+      → params_of g ≡ ps → g.result ≡ y → g.binder.index ≡ binder → k ≤ 8 → g.first ≡ first → next ≡ binders_in (binder + k) (nodes_of new)
       → LegRead all types gs binder bs before after g next r4
-  leg_made after r g next q c s ep ey eb few ef en =
+  leg_made between after r g next q e cl s ep ey eb few eg en =
+      let c = whole between after r e cl in
+      let ef = eg ∙ qf in
       let one : is_one (stack (nodes_of new)) ≡ true = ap (λ os. is_one (stack os)) (sym behind_is) ∙ sym c.one ∙ q in
       let w = single_gives (all - length r2) (stack (nodes_of new)) r4 one in
       let t = top (stack (nodes_of new)) in

@@ -14,7 +14,7 @@ use Rattle.arrayvec.specs.ArrayVec.{ArrayVec}
 use Rattle.plan.specs.declared.Type.{«Type» as Shape}
 use Rattle.reader.specs.declared.input.Input.{Input}
 use Rattle.reader.specs.declared.draft.Draft.{Draft}
-use Rattle.reader.specs.Reading.{Got, not_zero, many, read_head, node_of, read_node, read_table, read_params, read_leg, read_legs, read_front, read}
+use Rattle.reader.specs.Reading.{Got, not_zero, many, read_head, node_of, read_node, read_params, read_leg, read_legs, read}
 use Rattle.plan.specs.Kinds.{number_of}
 use Rattle.plan.specs.Written.{with_node, binders_in, built_in, Before, with_leg}
 use Rattle.plan.specs.Table.{nodes_of, term_at, Standing, InOrder}
@@ -57,25 +57,24 @@ kinded_in d kind value = node_of (vec_len d.types) (arities_of (vec_items d.legs
 abbrev pub node_in : Draft → ℕ → List ℕ → Got Node
 node_in d all bs = read_node all (vec_len d.types) (arities_of (vec_items d.legs)) d.next bs
 
+abbrev pub nodes_in : ℕ → Draft → ℕ → List ℕ → Got (List Node)
+nodes_in count d all bs = many with_node (read_node all (vec_len d.types) (arities_of (vec_items d.legs))) count d.next bs
+
 -- Nodes read onto others.
 abbrev pub NodesRead : ℕ → Draft → Draft → Input → Input → Result (Unit {0}) ReadFault → Type 0
 NodesRead count d e before after (Ok u) =
     (new : List Row) × (vec_items e.nodes ≡ vec_items d.nodes ++ new)
-    × (many with_node (read_node before.all (vec_len d.types) (arities_of (vec_items d.legs))) count d.next before.rest.now ≡ Ok (nodes_of new, after.rest.now))
+    × (nodes_in count d before.all before.rest.now ≡ Ok (nodes_of new, after.rest.now))
     × (e.next ≡ binders_in d.next (nodes_of new)) × (length new ≡ count) × (after.all ≡ before.all) × (e.types ≡ d.types) × (e.legs ≡ d.legs)
-NodesRead count d e before after (Err f) = many with_node (read_node before.all (vec_len d.types) (arities_of (vec_items d.legs))) count d.next before.rest.now ≡ Err f
+NodesRead count d e before after (Err f) = nodes_in count d before.all before.rest.now ≡ Err f
 
 -- what reading types leaves alone
 abbrev pub OnlyTypes : Draft → Draft → Type 0
 OnlyTypes d e = (e.legs ≡ d.legs) × (e.nodes ≡ d.nodes) × (e.next ≡ d.next)
 
-abbrev pub TableRead : Draft → Draft → Input → Input → Result (Unit {0}) ReadFault → Type 0
-TableRead d e before after (Ok u) = (es : List Shape) × (vec_items e.types ≡ built_in ++ es) × (read_table before.all before.rest.now ≡ Ok (es, after.rest.now)) × (after.all ≡ before.all) × OnlyTypes d e
-TableRead d e before after (Err f) = read_table before.all before.rest.now ≡ Err f
-
-abbrev pub FrontRead : Draft → Draft → Input → Input → Result (Unit {0}) ReadFault → Type 0
-FrontRead d e before after (Ok u) = (es : List Shape) × (vec_items e.types ≡ built_in ++ es) × (read_front before.all before.rest.now ≡ Ok (es, after.rest.now)) × (after.all ≡ before.all) × OnlyTypes d e
-FrontRead d e before after (Err f) = read_front before.all before.rest.now ≡ Err f
+abbrev pub TypesRead : (ℕ → List ℕ → Got (List Shape)) → Draft → Draft → Input → Input → Result (Unit {0}) ReadFault → Type 0
+TypesRead P d e before after (Ok u) = (es : List Shape) × (vec_items e.types ≡ built_in ++ es) × (P before.all before.rest.now ≡ Ok (es, after.rest.now)) × (after.all ≡ before.all) × OnlyTypes d e
+TypesRead P d e before after (Err f) = P before.all before.rest.now ≡ Err f
 
 abbrev pub ParamsRead : ℕ → Input → Input → Result (ArrayVec TypeId) ReadFault → Type 0
 ParamsRead types before after (Ok ps) = (read_params before.all types before.rest.now ≡ Ok (ps.items, after.rest.now)) × (after.all ≡ before.all) × (length ps.items ≤ 8)

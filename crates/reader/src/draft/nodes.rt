@@ -50,10 +50,8 @@ impl Draft {
     {
         let at = input.place();
         let (kind, value) = input.head()?;
-        match self.node_of(kind, value) {
-            Some(node) => Ok(node),
-            None => Err(ReadFault::Ref(if value > 0 { at + 1 } else { at })),
-        }
+        let place = if value == 0 { at } else { at + 1 };
+        self.node_of(kind, value).ok_or(ReadFault::Ref(place))
     }
 
     pub(crate) fn read_nodes(

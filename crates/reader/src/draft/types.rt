@@ -1,8 +1,8 @@
 // The types of a plan: the three that each plan has, and its own.
 ghost use Rattle.std.specs.Prelude.{◌≡◌, [], vec_len};
 ghost use Rattle.plan.specs.Written.{built_in, listed};
-ghost use Rattle.reader.specs.Reading.{entry_of, read_entry};
-ghost use Rattle.reader.specs.Replies.{Reads, TableRead, FrontRead};
+ghost use Rattle.reader.specs.Reading.{entry_of, read_entry, read_table, read_front};
+ghost use Rattle.reader.specs.Replies.{Reads, TypesRead};
 
 use crate::draft::Draft;
 use crate::input::Input;
@@ -49,7 +49,7 @@ impl Draft {
     // The entries behind the types that each plan has.
     fn read_table(&mut self, input: &mut Input<'_>) -> Result<(), ReadFault>
         requires { self.old.types.items ≡ built_in }
-        ensures { TableRead self.old self.new input.old input.new result }
+        ensures { TypesRead read_table self.old self.new input.old input.new result }
     {
         let count = input.count(1, usize::from(MAX_ENTRIES))?;
         for _ in 0..count {
@@ -62,7 +62,7 @@ impl Draft {
     // The map of the fields, and the table of types if there is one.
     pub(crate) fn read_front(&mut self, input: &mut Input<'_>) -> Result<(), ReadFault>
         requires { self.old.types.items ≡ [] }
-        ensures { FrontRead self.old self.new input.old input.new result }
+        ensures { TypesRead read_front self.old self.new input.old input.new result }
     {
         self.types.push_reserved(Type::Unit);
         self.types.push_reserved(Type::Number);
