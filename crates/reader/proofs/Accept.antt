@@ -36,7 +36,7 @@ module _ (all : ℕ) (ts : List Shape) where
   new_inv at e q r rest h = go (listed e ts) refl h
     where
       go : (b : Bool) → listed e ts ≡ b → cond {A = Got Shape} b (Err («Ref» at)) (Ok (e, r)) ≡ Ok (q, rest) → (listed e ts ≡ false) × (e ≡ q) × (r ≡ rest)
-      go true t h = absurd (let z : ◌≡◌ {A = ℕ} 0 1 = cc in omega arith)
+      go true t h = cc
       go false t h = let i = ok_same (e, r) (q, rest) h in (t, ap (λ p. p.0) i, ap (λ p. p.1) i)
 
   new_on : (at : ℕ) (e : Shape) (r : List ℕ) → listed e ts ≡ false → new_entry at ts e r ≡ Ok (e, r)
@@ -122,8 +122,8 @@ pub count_exact : (all used : ℕ) → Exact (λ n. in_count used n ≡ true) tw
 count_exact all used = record { sound = sound; full = full }
   where
     sound : (bs : List ℕ) (n : ℕ) (rest : List ℕ) → Bytes bs → read_count all used bs ≡ Ok (n, rest) → (bs ≡ two_bytes n ++ rest) × (in_count used n ≡ true)
-    sound [] n rest y e = absurd (let z : ◌≡◌ {A = ℕ} 0 1 = cc in omega arith)
-    sound (h ∷ []) n rest y e = absurd (let z : ◌≡◌ {A = ℕ} 0 1 = cc in omega arith)
+    sound [] n rest y e = cc
+    sound (h ∷ []) n rest y e = cc
     sound (h ∷ l ∷ bs) n rest y e =
         let i = cond_ok (in_count used (h * 0x100 + l)) (h * 0x100 + l, bs) (n, rest) (Limit (all - length (h ∷ l ∷ bs))) e in
         let en : h * 0x100 + l ≡ n = ap (λ p. p.0) i.1 in
@@ -139,10 +139,10 @@ count_exact all used = record { sound = sound; full = full }
         ap (λ x. cond (in_count used x) (Ok (x, rest)) (Err (Limit (all - length (two_bytes n ++ rest))))) e ∙ ap (λ b. cond b (Ok (n, rest)) (Err (Limit (all - length (two_bytes n ++ rest))))) t
 
 single_inv : (at : ℕ) (s : Stack) (r : List ℕ) (t : Term) (rest : List ℕ) → single at s r ≡ Ok (t, rest) → (s ≡ some (t ∷ [])) × (r ≡ rest)
-single_inv at none r t rest e = absurd (let z : ◌≡◌ {A = ℕ} 0 1 = cc in omega arith)
-single_inv at (some []) r t rest e = absurd (let z : ◌≡◌ {A = ℕ} 0 1 = cc in omega arith)
+single_inv at none r t rest e = cc
+single_inv at (some []) r t rest e = cc
 single_inv at (some (u ∷ [])) r t rest e = let i = ok_same (u, r) (t, rest) e in (ap (λ p. some (p.0 ∷ [])) i, ap (λ p. p.1) i)
-single_inv at (some (u ∷ v ∷ us)) r t rest e = absurd (let z : ◌≡◌ {A = ℕ} 0 1 = cc in omega arith)
+single_inv at (some (u ∷ v ∷ us)) r t rest e = cc
 
 abbrev body_bytes : Term → List ℕ
 body_bytes t = nodes_bytes (flat t)
@@ -304,15 +304,15 @@ module _ (all : ℕ) where
       ∙ then_on (read_legs all (3 + length es) (counted_bytes leg_bytes p.legs ++ rest)) _ p.legs rest ((legs_exact all (3 + length es)).full p.legs rest l.legs)
 
 end_inv : (all : ℕ) (g : Got Plan) (p : Plan) → to_the_end all g ≡ Ok p → g ≡ Ok (p, [])
-end_inv all (Err x) p e = absurd (let z : ◌≡◌ {A = ℕ} 0 1 = cc in omega arith)
+end_inv all (Err x) p e = cc
 end_inv all (Ok (q, [])) p e = ap (λ x. Ok (x, [])) (ok_same q p e)
-end_inv all (Ok (q, b ∷ bs)) p e = absurd (let z : ◌≡◌ {A = ℕ} 0 1 = cc in omega arith)
+end_inv all (Ok (q, b ∷ bs)) p e = cc
 
 accepted : (bs : List ℕ) (p : Plan) → Bytes bs → read bs ≡ Ok p → WellLaid p × (written p ≡ bs)
 accepted bs p b e = go (leb (length bs) max_bytes) refl e
   where
     go : (x : Bool) → leb (length bs) max_bytes ≡ x → cond {A = Result Plan ReadFault} x (to_the_end (length bs) (read_plan (length bs) bs)) (Err (Limit max_bytes)) ≡ Ok p → WellLaid p × (written p ≡ bs)
-    go false q e = absurd (let z : ◌≡◌ {A = ℕ} 0 1 = cc in omega arith)
+    go false q e = cc
     go true q e =
         let s = plan_sound (length bs) bs p [] b (end_inv (length bs) (read_plan (length bs) bs) p e) in
         let same : bs ≡ written p = s.0 ∙ append-nil (written p) in

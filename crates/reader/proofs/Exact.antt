@@ -1,5 +1,5 @@
 -- Readers that accept exactly what is written. Assumes nothing.
-use Rattle.std.proofs.Common.{◌≡◌, ℕ, zero, suc, ◌-◌, Bool, true, false, cond, List, [], ◌∷◌, ◌++◌, length, Ok, Err, Result, sym, refl, ap, ◌∙◌, subst, ap₂, append_assoc, arith}
+use Rattle.std.proofs.Common.{◌≡◌, ℕ, zero, suc, ◌-◌, Bool, true, false, cond, List, [], ◌∷◌, ◌++◌, length, Ok, Err, Result, sym, refl, ap, ◌∙◌, subst, ap₂, append_assoc}
 use Rattle.plan.specs.declared.faults.ReadFault.{ReadFault}
 use Rattle.plan.specs.Written.{Run, all_bytes}
 use Rattle.reader.specs.Reading.{Got, then_read, many, byte_if}
@@ -15,7 +15,7 @@ bytes_after (x ∷ xs) ys b = bytes_after xs ys b.1
 
 pub then_inv : {X Y : Type 0} (g : Got X) (f : X → List ℕ → Got Y) (y : Y × List ℕ) → then_read g f ≡ Ok y → (x : X) × (r : List ℕ) × (g ≡ Ok (x, r)) × (f x r ≡ Ok y)
 then_inv (Ok p) f y e = (p.0, p.1, refl, e)
-then_inv (Err q) f y e = absurd (let z : ◌≡◌ {A = ℕ} 0 1 = cc in omega arith)
+then_inv (Err q) f y e = cc
 
 pub then_on : {X Y : Type 0} (g : Got X) (f : X → List ℕ → Got Y) (x : X) (r : List ℕ) → g ≡ Ok (x, r) → then_read g f ≡ f x r
 then_on g f x r e = ap (λ h. then_read h f) e
@@ -25,7 +25,7 @@ ok_same x y e = cc
 
 pub cond_ok : {X F : Type 0} (b : Bool) (x y : X) (e : F) → cond b (Ok x) (Err e) ≡ Ok y → (b ≡ true) × (x ≡ y)
 cond_ok true x y e q = (refl, (let p : x ≡ y = cc in p))
-cond_ok false x y e q = absurd (let z : ◌≡◌ {A = ℕ} 0 1 = cc in omega arith)
+cond_ok false x y e q = cc
 
 -- a byte that passes a test
 abbrev pub lone : ℕ → List ℕ
@@ -35,7 +35,7 @@ pub byte_exact : (ok : ℕ → Bool) (fault : ℕ → ReadFault) (all : ℕ) →
 byte_exact ok fault all = record { sound = sound; full = full }
   where
     sound : (bs : List ℕ) (x : ℕ) (rest : List ℕ) → Bytes bs → byte_if ok fault all bs ≡ Ok (x, rest) → (bs ≡ x ∷ rest) × (ok x ≡ true)
-    sound [] x rest b e = absurd (let z : ◌≡◌ {A = ℕ} 0 1 = cc in omega arith)
+    sound [] x rest b e = cc
     sound (y ∷ bs) x rest b e =
         let q = cond_ok (ok y) (y, bs) (x, rest) (fault (all - length (y ∷ bs))) e in
         let yx : y ≡ x = ap (λ p. p.0) q.1 in

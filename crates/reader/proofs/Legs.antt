@@ -23,14 +23,14 @@ use Rattle.plan.proofs.Plans.{nodes_append}
 single_fails : (at : ℕ) (s : Stack) (r : List ℕ) → is_one s ≡ false → single at s r ≡ Err (NotOne at)
 single_fails at none r e = refl
 single_fails at (some []) r e = refl
-single_fails at (some (t ∷ [])) r e = absurd (let z : ◌≡◌ {A = ℕ} 0 1 = cc in omega arith)
+single_fails at (some (t ∷ [])) r e = cc
 single_fails at (some (t ∷ u ∷ ts)) r e = refl
 
 single_gives : (at : ℕ) (s : Stack) (r : List ℕ) → is_one s ≡ true → (single at s r ≡ Ok (top s, r)) × (s ≡ some (top s ∷ []))
-single_gives at none r e = absurd (let z : ◌≡◌ {A = ℕ} 0 1 = cc in omega arith)
-single_gives at (some []) r e = absurd (let z : ◌≡◌ {A = ℕ} 0 1 = cc in omega arith)
+single_gives at none r e = cc
+single_gives at (some []) r e = cc
 single_gives at (some (t ∷ [])) r e = (refl, refl)
-single_gives at (some (t ∷ u ∷ ts)) r e = absurd (let z : ◌≡◌ {A = ℕ} 0 1 = cc in omega arith)
+single_gives at (some (t ∷ u ∷ ts)) r e = cc
 
 module _ (all types : ℕ) (gs : List FlatLeg) (binder : ℕ) (before new : List Row) (bs r1 r2 r3 r4 : List ℕ) (ps : List TypeId) (k : ℕ) (y : TypeId) (n : ℕ)
     (all1 all2 all3 types0 first : ℕ) (q1 : all1 ≡ all) (q2 : all2 ≡ all1) (q3 : all3 ≡ all2) (qt : types0 ≡ types) (qf : first ≡ length before) (ek : k ≡ length ps)

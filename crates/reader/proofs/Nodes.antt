@@ -21,7 +21,7 @@ not_zero_suc at k v rest = ap (λ b. cond b (Err (Bits at)) (Ok (k, suc v, rest)
 
 -- ---- a node's first byte
 
-abbrev pub bits_of : Field → ℕ
+abbrev bits_of : Field → ℕ
 bits_of Absent = 0
 bits_of Byte = 1
 bits_of Word = 2
@@ -42,7 +42,7 @@ tested bits j h g more k f own next e = go (eqb bits (bits_of h)) refl e
         (ap (λ x. x.0) p, eqb-true bits (bits_of h) q ∙ ap bits_of same, subst (λ x. (x ≡ Absent) ⊎ (x ≡ g)) same own)
 
 nothing : {X : Type 0} (k : ℕ) (f : Field) → ◌≡◌ {A = Option (ℕ × Field)} None (Some (k, f)) → X
-nothing k f e = absurd (let z : ◌≡◌ {A = ℕ} 0 1 = cc in omega arith)
+nothing k f e = cc
 
 announces : (bits j : ℕ) (g : Field) (k : ℕ) (f : Field) → announced bits j g ≡ Some (k, f) → Announces bits j g k f
 announces bits j Absent k f e = tested bits j Absent Absent None k f (inl refl) (nothing k f) e
@@ -50,12 +50,12 @@ announces bits j Byte k f e = tested bits j Absent Byte _ k f (inl refl) (tested
 announces bits j Word k f e = tested bits j Absent Word _ k f (inl refl) (tested bits j Word Word None k f (inr refl) (nothing k f)) e
 
 -- The kind is one of the table, and a field that is announced is the kind's own.
-pub record Shaped (h k : ℕ) (f : Field) : Type 0 where
+record Shaped (h k : ℕ) (f : Field) : Type 0 where
   pub known : k ≤ 12
   pub head_is : h ≡ k + 16 * bits_of f
   pub own : (f ≡ Absent) ⊎ (f ≡ (rule k).field)
 
-pub shaped : (h k : ℕ) (f : Field) → shape_of h ≡ Some (k, f) → Shaped h k f
+shaped : (h k : ℕ) (f : Field) → shape_of h ≡ Some (k, f) → Shaped h k f
 shaped h k f e = go (leb (h % 16) 12) refl e
   where
     go : (t : Bool) → leb (h % 16) 12 ≡ t → cond t (announced (h / 16) (h % 16) (rule (h % 16)).field) None ≡ Some (k, f) → Shaped h k f
@@ -70,24 +70,24 @@ shaped h k f e = go (leb (h % 16) 12) refl e
           own = subst (λ x. (f ≡ Absent) ⊎ (f ≡ (rule x).field)) low a.2;
         }
 
-pub own_field : {h k : ℕ} (f : Field) → Shaped h k f → ¬ (f ≡ Absent) → (rule k).field ≡ f
+own_field : {h k : ℕ} (f : Field) → Shaped h k f → ¬ (f ≡ Absent) → (rule k).field ≡ f
 own_field f s no-absent = elim s.own [ inl e ↦ absurd (no-absent e) | inr e ↦ sym e ]
 
 -- only numbers have a field of four bytes
-pub word_kind : (j : ℕ) → j ≤ 12 → (rule j).field ≡ Word → j ≡ 1
-word_kind zero le e = absurd (let z : ◌≡◌ {A = ℕ} 0 1 = cc in omega arith)
+word_kind : (j : ℕ) → j ≤ 12 → (rule j).field ≡ Word → j ≡ 1
+word_kind zero le e = cc
 word_kind (suc zero) le e = refl
-word_kind (suc (suc zero)) le e = absurd (let z : ◌≡◌ {A = ℕ} 0 1 = cc in omega arith)
-word_kind (suc (suc (suc zero))) le e = absurd (let z : ◌≡◌ {A = ℕ} 0 1 = cc in omega arith)
-word_kind (suc (suc (suc (suc zero)))) le e = absurd (let z : ◌≡◌ {A = ℕ} 0 1 = cc in omega arith)
-word_kind (suc (suc (suc (suc (suc zero))))) le e = absurd (let z : ◌≡◌ {A = ℕ} 0 1 = cc in omega arith)
-word_kind (suc (suc (suc (suc (suc (suc zero)))))) le e = absurd (let z : ◌≡◌ {A = ℕ} 0 1 = cc in omega arith)
-word_kind (suc (suc (suc (suc (suc (suc (suc zero))))))) le e = absurd (let z : ◌≡◌ {A = ℕ} 0 1 = cc in omega arith)
-word_kind (suc (suc (suc (suc (suc (suc (suc (suc zero)))))))) le e = absurd (let z : ◌≡◌ {A = ℕ} 0 1 = cc in omega arith)
-word_kind (suc (suc (suc (suc (suc (suc (suc (suc (suc zero))))))))) le e = absurd (let z : ◌≡◌ {A = ℕ} 0 1 = cc in omega arith)
-word_kind (suc (suc (suc (suc (suc (suc (suc (suc (suc (suc zero)))))))))) le e = absurd (let z : ◌≡◌ {A = ℕ} 0 1 = cc in omega arith)
-word_kind (suc (suc (suc (suc (suc (suc (suc (suc (suc (suc (suc zero))))))))))) le e = absurd (let z : ◌≡◌ {A = ℕ} 0 1 = cc in omega arith)
-word_kind (suc (suc (suc (suc (suc (suc (suc (suc (suc (suc (suc (suc zero)))))))))))) le e = absurd (let z : ◌≡◌ {A = ℕ} 0 1 = cc in omega arith)
+word_kind (suc (suc zero)) le e = cc
+word_kind (suc (suc (suc zero))) le e = cc
+word_kind (suc (suc (suc (suc zero)))) le e = cc
+word_kind (suc (suc (suc (suc (suc zero))))) le e = cc
+word_kind (suc (suc (suc (suc (suc (suc zero)))))) le e = cc
+word_kind (suc (suc (suc (suc (suc (suc (suc zero))))))) le e = cc
+word_kind (suc (suc (suc (suc (suc (suc (suc (suc zero)))))))) le e = cc
+word_kind (suc (suc (suc (suc (suc (suc (suc (suc (suc zero))))))))) le e = cc
+word_kind (suc (suc (suc (suc (suc (suc (suc (suc (suc (suc zero)))))))))) le e = cc
+word_kind (suc (suc (suc (suc (suc (suc (suc (suc (suc (suc (suc zero))))))))))) le e = cc
+word_kind (suc (suc (suc (suc (suc (suc (suc (suc (suc (suc (suc (suc zero)))))))))))) le e = cc
 word_kind (suc (suc (suc (suc (suc (suc (suc (suc (suc (suc (suc (suc (suc j))))))))))))) le e = absurd (omega arith)
 
 typed_there : (types y : ℕ) (o : Node) → y < types → typed_node types y o ≡ Some o
@@ -98,7 +98,7 @@ typed_inv types y o q e = go (ltb y types) refl e
   where
     go : (b : Bool) → ltb y types ≡ b → cond b (Some o) None ≡ Some q → (y < types) × (o ≡ q)
     go true t e = (ltb-true y types t, some_same o q e)
-    go false t e = absurd (let z : ◌≡◌ {A = ℕ} 0 1 = cc in omega arith)
+    go false t e = cc
 
 module _ (all types : ℕ) (arities : List ℕ) (k : ℕ) where
   abbrev Reads : Node → Type 0
@@ -179,11 +179,11 @@ module _ (all types : ℕ) (arities : List ℕ) (k : ℕ) where
       ⊎ ((a b c d : ℕ) × (bs ≡ 0x21 ∷ a ∷ b ∷ c ∷ d ∷ rest) × (kind ≡ 1) × (¬ (v ≡ 0)) × (v ≡ a * 0x1000000 + b * 0x10000 + c * 0x100 + d) × (a < 256) × (b < 256) × (c < 256) × (d < 256)))
 
   not_zero_inv : (at kind v : ℕ) (rest : List ℕ) (q : ℕ × ℕ × List ℕ) → not_zero at kind v rest ≡ Ok q → (¬ (v ≡ 0)) × ((kind, v, rest) ≡ q)
-  not_zero_inv at kind zero rest q e = absurd (let z : ◌≡◌ {A = ℕ} 0 1 = cc in omega arith)
+  not_zero_inv at kind zero rest q e = cc
   not_zero_inv at kind (suc v) rest q e = (λ z. omega arith, ok_same (kind, suc v, rest) q (sym (not_zero_suc at kind v rest) ∙ e))
 
   read_byte_way : (at h j : ℕ) (bs : List ℕ) (kind v : ℕ) (rest : List ℕ) → Bytes bs → Shaped h j Byte → read_byte all at j bs ≡ Ok (kind, v, rest) → Way (h ∷ bs) kind v rest
-  read_byte_way at h j [] kind v rest b s e = absurd (let z : ◌≡◌ {A = ℕ} 0 1 = cc in omega arith)
+  read_byte_way at h j [] kind v rest b s e = cc
   read_byte_way at h j (x ∷ bs) kind v rest b s e =
       let i = not_zero_inv at j x bs (kind, v, rest) e in
       let ek : j ≡ kind = ap (λ p. p.0) i.1 in
@@ -196,14 +196,14 @@ module _ (all types : ℕ) (arities : List ℕ) (k : ℕ) where
         (λ z. i.0 (ev ∙ z)),
         subst (λ n. n < 256) ev b.0,
         subst (λ n. n ≤ 12) ek s.known,
-        subst (λ n. (rule n).field ≡ Byte) ek (own_field Byte s (λ z. absurd (let z : ◌≡◌ {A = ℕ} 0 1 = cc in omega arith))),
+        subst (λ n. (rule n).field ≡ Byte) ek (own_field Byte s (λ z. cc)),
       ))
 
   read_number_way : (at : ℕ) (bs : List ℕ) (kind v : ℕ) (rest : List ℕ) → Bytes bs → read_number all at 1 bs ≡ Ok (kind, v, rest) → Way (0x21 ∷ bs) kind v rest
-  read_number_way at [] kind v rest b e = absurd (let z : ◌≡◌ {A = ℕ} 0 1 = cc in omega arith)
-  read_number_way at (x ∷ []) kind v rest b e = absurd (let z : ◌≡◌ {A = ℕ} 0 1 = cc in omega arith)
-  read_number_way at (x ∷ y ∷ []) kind v rest b e = absurd (let z : ◌≡◌ {A = ℕ} 0 1 = cc in omega arith)
-  read_number_way at (x ∷ y ∷ w ∷ []) kind v rest b e = absurd (let z : ◌≡◌ {A = ℕ} 0 1 = cc in omega arith)
+  read_number_way at [] kind v rest b e = cc
+  read_number_way at (x ∷ []) kind v rest b e = cc
+  read_number_way at (x ∷ y ∷ []) kind v rest b e = cc
+  read_number_way at (x ∷ y ∷ w ∷ []) kind v rest b e = cc
   read_number_way at (x ∷ y ∷ w ∷ u ∷ bs) kind v rest b e =
       let n = x * 0x1000000 + y * 0x10000 + w * 0x100 + u in
       let i = not_zero_inv at 1 n bs (kind, v, rest) e in
@@ -216,7 +216,7 @@ module _ (all types : ℕ) (arities : List ℕ) (k : ℕ) where
   head_way at h bs kind v rest b e = go (shape_of h) refl e
     where
       go : (s : Option (ℕ × Field)) → shape_of h ≡ s → by_shape all at s bs ≡ Ok (kind, v, rest) → Way (h ∷ bs) kind v rest
-      go None q e = absurd (let z : ◌≡◌ {A = ℕ} 0 1 = cc in omega arith)
+      go None q e = cc
       go (Some (j, Absent)) q e =
           let s = shaped h j Absent q in
           let i = ok_same (j, 0, bs) (kind, v, rest) e in
@@ -228,25 +228,25 @@ module _ (all types : ℕ) (arities : List ℕ) (k : ℕ) where
       go (Some (j, Byte)) q e = read_byte_way at h j bs kind v rest b (shaped h j Byte q) e
       go (Some (j, Word)) q e =
           let s = shaped h j Word q in
-          let one = word_kind j s.known (own_field Word s (λ z. absurd (let z : ◌≡◌ {A = ℕ} 0 1 = cc in omega arith))) in
+          let one = word_kind j s.known (own_field Word s (λ z. cc)) in
           let head = s.head_is in
           let eh : 0x21 ≡ h = omega arith in
           subst (λ x. Way (x ∷ bs) kind v rest) eh (read_number_way at bs kind v rest b (subst (λ x. read_number all at x bs ≡ Ok (kind, v, rest)) one e))
 
   byte_good : (kind v : ℕ) (q : Node) → kind ≤ 12 → (rule kind).field ≡ Byte → suc v < 256 → node_of types arities k kind (suc v) ≡ Some q → Good ((0x10 + kind) ∷ suc v ∷ []) q
-  byte_good zero v q le own lt e = absurd (let z : ◌≡◌ {A = ℕ} 0 1 = cc in omega arith)
-  byte_good (suc zero) v q le own lt e = absurd (let z : ◌≡◌ {A = ℕ} 0 1 = cc in omega arith)
+  byte_good zero v q le own lt e = cc
+  byte_good (suc zero) v q le own lt e = cc
   byte_good (suc (suc zero)) v q le own lt e = good (0x12 ∷ suc v ∷ []) (Name (the_level (suc v))) q (refl, lt) e
-  byte_good (suc (suc (suc zero))) v q le own lt e = absurd (let z : ◌≡◌ {A = ℕ} 0 1 = cc in omega arith)
-  byte_good (suc (suc (suc (suc zero)))) v q le own lt e = absurd (let z : ◌≡◌ {A = ℕ} 0 1 = cc in omega arith)
-  byte_good (suc (suc (suc (suc (suc zero))))) v q le own lt e = absurd (let z : ◌≡◌ {A = ℕ} 0 1 = cc in omega arith)
-  byte_good (suc (suc (suc (suc (suc (suc zero)))))) v q le own lt e = absurd (let z : ◌≡◌ {A = ℕ} 0 1 = cc in omega arith)
+  byte_good (suc (suc (suc zero))) v q le own lt e = cc
+  byte_good (suc (suc (suc (suc zero)))) v q le own lt e = cc
+  byte_good (suc (suc (suc (suc (suc zero))))) v q le own lt e = cc
+  byte_good (suc (suc (suc (suc (suc (suc zero)))))) v q le own lt e = cc
   byte_good (suc (suc (suc (suc (suc (suc (suc zero))))))) v q le own lt e = good_typed (0x17 ∷ suc v ∷ []) types (suc v) (Left (the_type (suc v))) q (λ l. (refl, l)) e
   byte_good (suc (suc (suc (suc (suc (suc (suc (suc zero)))))))) v q le own lt e = good_typed (0x18 ∷ suc v ∷ []) types (suc v) (Right (the_type (suc v))) q (λ l. (refl, l)) e
-  byte_good (suc (suc (suc (suc (suc (suc (suc (suc (suc zero))))))))) v q le own lt e = absurd (let z : ◌≡◌ {A = ℕ} 0 1 = cc in omega arith)
+  byte_good (suc (suc (suc (suc (suc (suc (suc (suc (suc zero))))))))) v q le own lt e = cc
   byte_good (suc (suc (suc (suc (suc (suc (suc (suc (suc (suc zero)))))))))) v q le own lt e = good_typed (0x1a ∷ suc v ∷ []) (length arities) (suc v) (Call (the_leg (suc v)) (get_or arities (suc v) 0)) q (λ l. (refl, (l, refl))) e
-  byte_good (suc (suc (suc (suc (suc (suc (suc (suc (suc (suc (suc zero))))))))))) v q le own lt e = absurd (let z : ◌≡◌ {A = ℕ} 0 1 = cc in omega arith)
-  byte_good (suc (suc (suc (suc (suc (suc (suc (suc (suc (suc (suc (suc zero)))))))))))) v q le own lt e = absurd (let z : ◌≡◌ {A = ℕ} 0 1 = cc in omega arith)
+  byte_good (suc (suc (suc (suc (suc (suc (suc (suc (suc (suc (suc zero))))))))))) v q le own lt e = cc
+  byte_good (suc (suc (suc (suc (suc (suc (suc (suc (suc (suc (suc (suc zero)))))))))))) v q le own lt e = cc
   byte_good (suc (suc (suc (suc (suc (suc (suc (suc (suc (suc (suc (suc (suc j))))))))))))) v q le own lt e = absurd (omega arith)
 
   number_good : (v a b c d : ℕ) (q : Node) → suc v ≡ a * 0x1000000 + b * 0x10000 + c * 0x100 + d → a < 256 → b < 256 → c < 256 → d < 256 → node_of types arities k 1 (suc v) ≡ Some q
@@ -273,17 +273,17 @@ module _ (all types : ℕ) (arities : List ℕ) (k : ℕ) where
       (w.4 ∙ ap (λ l. l ++ rest) g.0, g.1)
 
   there_inv : (at : ℕ) (o : Option Node) (r : List ℕ) (q : Node) (rest : List ℕ) → there at o r ≡ Ok (q, rest) → (o ≡ Some q) × (r ≡ rest)
-  there_inv at None r q rest e = absurd (let z : ◌≡◌ {A = ℕ} 0 1 = cc in omega arith)
+  there_inv at None r q rest e = cc
   there_inv at (Some o) r q rest e = let i = ok_same (o, r) (q, rest) e in (ap (λ p. Some p.0) i, ap (λ p. p.1) i)
 
   from_inv : (at : ℕ) (f : Head) (q : Node) (rest : List ℕ) → node_from types arities at k f ≡ Ok (q, rest) → (kind v : ℕ) × (f ≡ Ok (kind, v, rest)) × (node_of types arities k kind v ≡ Some q)
-  from_inv at (Err x) q rest e = absurd (let z : ◌≡◌ {A = ℕ} 0 1 = cc in omega arith)
+  from_inv at (Err x) q rest e = cc
   from_inv at (Ok p) q rest e =
       let i = there_inv (field_place at p.1) (node_of types arities k p.0 p.1) p.2 q rest e in
       (p.0, p.1, ap (λ r. Ok (p.0, p.1, r)) i.1, i.0)
 
   node_sound : (bs : List ℕ) (q : Node) (rest : List ℕ) → Bytes bs → read_node all types arities k bs ≡ Ok (q, rest) → (bs ≡ node_bytes q ++ rest) × NodeLaid types arities k q
-  node_sound [] q rest b e = absurd (let z : ◌≡◌ {A = ℕ} 0 1 = cc in omega arith)
+  node_sound [] q rest b e = cc
   node_sound (h ∷ bs) q rest b e =
       let at = all - length (h ∷ bs) in
       let i = from_inv at (by_shape all at (shape_of h) bs) q rest e in

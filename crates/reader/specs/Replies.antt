@@ -93,10 +93,10 @@ pub record LegRead (all types : ℕ) (gs : List FlatLeg) (binder : ℕ) (bs : Li
   pub longer : length after ≡ (with_leg (before_of gs binder before) (leg_in after g)).used
   pub kept : (i : ℕ) → i < length before → term_at after i ≡ term_at before i
 
-abbrev pub LegAnswer : Draft → Draft → Input → Input → Result FlatLeg ReadFault → Type 0
-LegAnswer d e before after (Ok g) =
+abbrev pub OneLegRead : Draft → Draft → Input → Input → Result FlatLeg ReadFault → Type 0
+OneLegRead d e before after (Ok g) =
     LegRead before.all (vec_len d.types) (vec_items d.legs) d.next before.rest.now (vec_items d.nodes) (vec_items e.nodes) g e.next after.rest.now × (after.all ≡ before.all) × (e.types ≡ d.types) × (e.legs ≡ d.legs)
-LegAnswer d e before after (Err f) = read_leg before.all (vec_len d.types) (before_of (vec_items d.legs) d.next (vec_items d.nodes)) before.rest.now ≡ Err f
+OneLegRead d e before after (Err f) = read_leg before.all (vec_len d.types) (before_of (vec_items d.legs) d.next (vec_items d.nodes)) before.rest.now ≡ Err f
 
 abbrev pub LegsRead : Draft → Draft → Input → Input → Result (Unit {0}) ReadFault → Type 0
 LegsRead d e before after (Ok u) =

@@ -27,7 +27,7 @@ pub(crate) struct Input<'a> {
 }
 
 impl<'a> Input<'a> {
-    ghost use Rattle.std.specs.Prelude.{◌≡◌, ◌+◌, ◌-◌, ◌==◌, IfOk};
+    ghost use Rattle.std.specs.Prelude.{◌+◌, ◌-◌, ◌==◌, IfOk};
     ghost use Rattle.plan.specs.declared.faults.ReadFault.TheVariants.{Limit};
     ghost use Rattle.reader.specs.Reading.{byte_if, between, read_type, read_count};
     ghost use Rattle.reader.specs.Replies.{Reads, first_byte, FieldRead, HeadRead};

@@ -1,5 +1,5 @@
 // The ends of expressions in a table of nodes in prefix order.
-ghost use Rattle.std.specs.Prelude.{◌≡◌, ℕ, ◌+◌, ◌<◌, ◌≤◌, true, List, length, drop};
+ghost use Rattle.std.specs.Prelude.{◌≡◌, ◌≤◌, List, length, drop};
 ghost use Rattle.std.proofs.Math.Option.{some};
 ghost use Rattle.plan.specs.Trees.{Term, stack};
 ghost use Rattle.plan.specs.Table.{skipped, Ended, Closed, nodes_of};

@@ -1,7 +1,7 @@
 // The legs of a plan.
-ghost use Rattle.std.specs.Prelude.{◌≡◌, ◌+◌, ◌<◌, ◌≤◌, [], vec_len, vec_capacity};
+ghost use Rattle.std.specs.Prelude.{◌≡◌, ◌≤◌, [], vec_len, vec_capacity};
 ghost use Rattle.plan.specs.Table.{Standing, Closed};
-ghost use Rattle.reader.specs.Replies.{ParamsRead, LegAnswer, LegsRead};
+ghost use Rattle.reader.specs.Replies.{ParamsRead, OneLegRead, LegsRead};
 
 use crate::draft::Draft;
 use crate::input::Input;
@@ -35,7 +35,7 @@ fn close_leg(nodes: &mut Vec<Row>, first: usize) -> bool
     ensures cap { vec_capacity nodes.new ≡ vec_capacity nodes.old }
     ensures len { vec_len nodes.new ≡ vec_len nodes.old }
 {
-    close(nodes.as_mut_slice(), first)
+    close(nodes, first)
 }
 
 impl Draft {
@@ -43,7 +43,7 @@ impl Draft {
     fn read_leg(&mut self, input: &mut Input<'_>) -> Result<Leg, ReadFault>
         requires low { self.old.next ≤ 640 }
         requires stands { Standing 0 self.old.nodes.items }
-        ensures { LegAnswer self.old self.new input.old input.new result }
+        ensures { OneLegRead self.old self.new input.old input.new result }
     {
         let types = self.types.len();
         let first = self.nodes.len();

@@ -1,5 +1,5 @@
 // The types of a plan: the three that each plan has, and its own.
-ghost use Rattle.std.specs.Prelude.{◌≡◌, [], vec_len};
+ghost use Rattle.std.specs.Prelude.{◌≡◌, []};
 ghost use Rattle.plan.specs.Written.{built_in, listed};
 ghost use Rattle.reader.specs.Reading.{entry_of, read_entry, read_table, read_front};
 ghost use Rattle.reader.specs.Replies.{Reads, TypesRead};
@@ -53,7 +53,7 @@ impl Draft {
     {
         let count = input.count(1, usize::from(MAX_ENTRIES))?;
         for _ in 0..count {
-            let entry = read_entry(input, self.types.as_slice())?;
+            let entry = read_entry(input, &self.types)?;
             self.types.push_reserved(entry);
         }
         Ok(())

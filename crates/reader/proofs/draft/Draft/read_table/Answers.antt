@@ -14,7 +14,7 @@ returns-in_err-entry c =
     let r = v.read in
     let n = c.in_ok-count.ensures.read in
     let all = c.args.input.now.all in
-    let at = entry_same c.as_slice.result.now (built_in ++ r.0) c.loop.input.all all c.loop.input.rest.now _ (c.as_slice.ensures.value ∙ r.1) v.same_all c.in_err-entry.ensures in
+    let at = entry_same c.deref.result.now (built_in ++ r.0) c.loop.input.all all c.loop.input.rest.now _ (c.deref.ensures.value ∙ r.1) v.same_all c.in_err-entry.ensures in
     rw (p.1, p.2) (ap (λ g. then_read g (λ n r. many with_entry (read_entry all) n built_in r)) (ap (λ h. byte_if (between 1 h) Limit all c.args.input.now.rest.now) (sym c.from.ensures) ∙ n.0)
     ∙ left_fails with_entry (read_entry all) c.in_ok-count.count built_in c.count.new.self.rest.now c.loop.counter (built_in ++ r.0) c.loop.input.rest.now r.0 _ c.loop-test.true r.2 at)
 
@@ -27,7 +27,7 @@ loop-preserved c =
     let x = c.in_ok-entry.entry in
     let all = c.args.input.now.all in
     let then = c.read_entry.new.input.rest.now in
-    let at = entry_same c.as_slice.result.now (built_in ++ es) c.loop.input.all all c.loop.input.rest.now _ (c.as_slice.ensures.value ∙ r.1) v.same_all e.0 in
+    let at = entry_same c.deref.result.now (built_in ++ es) c.loop.input.all all c.loop.input.rest.now _ (c.deref.ensures.value ∙ r.1) v.same_all e.0 in
     record {
       length_is = c.push_reserved.ensures.len ∙ ap (λ k. k + 1) v.length_is ∙ omega arith;
       only_types = v.only_types;
