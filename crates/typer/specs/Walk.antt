@@ -1,6 +1,5 @@
 -- The typer's walk, one node at a time: the scope of each kid, and the node's type from its kids' types. Assumes nothing.
-use Rattle.std.specs.Prelude.{◌≡◌, ℕ, ◌+◌, Bool, cond, ◌&&◌, List, [], ◌∷◌, ◌++◌, length, take, Ok, Err, Result, ◌==◌, slice_index_or, vec_items}
-use Rattle.std.specs.Prelude.{reverse}
+use Rattle.std.specs.Prelude.{◌≡◌, ℕ, ◌+◌, Bool, cond, ◌&&◌, List, [], ◌∷◌, ◌++◌, length, take, reverse, Ok, Err, Result, ◌==◌, slice_index_or, vec_items}
 use Rattle.std.specs.List.{slice_get, list_all}
 use Rattle.plan.specs.declared.TypeId.{TypeId}
 use Rattle.plan.specs.declared.Type.{«Type» as Shape}
