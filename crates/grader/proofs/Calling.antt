@@ -1,7 +1,7 @@
 -- The arguments of a call, from the last to the first. Assumes nothing.
 use Rattle.std.proofs.Common.{◌≡◌, ℕ, zero, suc, ◌+◌, ◌-◌, ◌<◌, ◌≤◌, List, [], ◌∷◌, ◌++◌, length, get_or, take, drop, reverse, sym, refl, ap, ◌∙◌, subst, ap₂, append_assoc, append-nil, add-one, arith, length-append}
 use lib.ListN.{length-replicate, length-map}
-use Rattle.std.proofs.lemmas.List.{take_more, drop_more, take_all, drop_all, length-reverse, get_or-reverse, get_or_default}
+use Rattle.std.proofs.lemmas.List.{take_more, drop_more, length-reverse, get_or-reverse, get_or_default}
 use Rattle.scales.specs.Laws.{Ops}
 use Rattle.scales.specs.Rows.{row_plus, row_times, row_zero}
 use Rattle.scales.proofs.RowLists.{length_zip}
@@ -26,15 +26,6 @@ module _ {G : Type 0} (o : Ops G) (r : ℕ → G) (n c : ℕ) where
   call_long : (j : ℕ) (us : List (List G)) → ((k : ℕ) → k < length us → length (get_or us k []) ≡ n) → length (call_row o r j n us) ≡ n
   call_long j [] w = length-replicate n o.zero
   call_long j (u ∷ us) w = length_zip o.plus (row_times o (r j) u) (call_row o r (suc j) n us) ∙ length-map u (o.times (r j)) ∙ w 0 (omega arith)
-
-  pub starts : (before start : List G) → start ≡ before ++ row_zero o n → RowsOn before c (λ i. n) → Calling start c start
-  starts before start e k = record {
-    all = λ b q m. (
-        let len = m.count in
-        q ∙ ap (λ l. l ++ row_zero o n) m.is ∙ append_assoc m.base (concat m.rows) (row_zero o n)
-        ∙ ap₂ (λ us vs. m.base ++ (concat us ++ call_row o r c n vs)) (sym (take_all c m.rows (omega arith))) (sym (drop_all c m.rows (omega arith))));
-    some = (before, e, k);
-  }
 
   -- what stands on the stack before the argument i is taken in
   pub record Next (now : List G) (i : ℕ) : Type 0 where

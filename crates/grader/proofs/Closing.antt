@@ -182,10 +182,6 @@ part_long : {G : Type 0} (first c : ℕ) (answers : List G) → first + c ≤ le
 part_long first c answers fits = let rest = length-drop first answers in length-take-le (first + c - first) (drop first answers) (omega arith) ∙ (let e : first + c - first ≡ c = omega arith in e)
 
 module _ {G : Type 0} {held : List G} {n : ℕ} {node : Node} {l : LegId} {c : ℕ} (first : ℕ) (answers : List G) (fits : first + c ≤ length answers) (e : node ≡ Call l c) where
-  -- as many arguments stand on the stack
-  pub arguments_there : KidsOn held node n → RowsOn held (length (part first c answers)) (λ i. n)
-  arguments_there kids = subst (λ m. RowsOn held m (λ i. n)) (sym (part_long first c answers fits)) (arguments_on l c (subst (λ k. KidsOn held k n) e kids))
-
   pub call_closed : {o : Ops G} {r : ℕ → ℕ → G} {next : ℕ} {after : List G} → ((j : ℕ) → r l.index j ≡ get_or answers (first + j) o.zero)
       → ((k : RowsOn held (length (part first c answers)) (λ i. n)) → after ≡ k.base ++ call_row o (λ j. get_or (part first c answers) j o.zero) 0 n k.rows)
       → Closed o r node n next held after answers answers

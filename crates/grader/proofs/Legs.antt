@@ -21,7 +21,6 @@ use Rattle.grading.proofs.Standing.{legs_counted}
 use Rattle.grader.specs.Walk.{Known, ParamsIn, param_grade, put, LegsReady}
 use Rattle.grader.proofs.Merging.{get_or_from_0}
 use Rattle.grader.proofs.Puts.{put_more, put_front, put_below, put_here, put_long}
-use Rattle.grader.proofs.Closing.{put_none}
 
 -- a row of the table for each leg
 pub legs_length : (ns : List Row) (gs : List FlatLeg) → length (legs_in ns gs) ≡ length gs
@@ -48,9 +47,6 @@ module _ {G : Type 0} (o : Ops G) (ns : List Row) (gs : List FlatLeg) (start : L
     pub answers_are : answers ≡ put 0 (legs_grades o (lower ns gs k)) start
     pub known : Known o (leg_needs o (lower ns gs k)) (take k gs) answers
     pub params : ParamsIn (take k gs) (legs_binders (lower ns gs k))
-
-  pub first_leg : AtLeg 0 start
-  first_leg = record { answers_are = sym (put_none 0 start); known = λ l j lt. absurd (omega arith); params = λ l lt. absurd (omega arith) }
 
   -- how many binders the lower legs and this one have
   leg_long : (Γ : List (ℕ → G)) (g : Leg) (s : ℕ) → s + length (leg_grades o Γ g) ≡ binders_in (s + arity g) (flat g.body)

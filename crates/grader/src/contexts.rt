@@ -1,5 +1,6 @@
 // A stack of contexts over a lent slice of grades, for any scale.
 ghost use Rattle.std.specs.Prelude.{◌≡◌, ℕ, ◌+◌, ◌<◌, ◌≤◌, List, [], ◌++◌, length, take, drop, slice_index_or};
+ghost use Rattle.std.specs.Borrow.{MutBor, Bor};
 ghost use Rattle.scales.specs.Rows.{row_plus, row_join, row_times, row_zero};
 ghost use Rattle.grading.specs.Grading.{one_of};
 ghost use Rattle.grading.specs.Least.{from_0};
@@ -10,6 +11,7 @@ use scales::scale::Scale;
 use std::marker::Model;
 
 // The contexts of the expressions that are graded and not yet used, one behind the other.
+// They lie in a slice that the caller lends, and in no vector: no memory is taken while legs are graded.
 #[derive(Drop)]
 pub struct Contexts<'a, G> {
     places: &'a mut [G],
@@ -37,22 +39,15 @@ fn clear<G: Scale>(row: &mut [G])
     }
 }
 
-// Adds the grades from `width` on to the first ones.
-fn add_rest<G: Scale>(grades: &mut [G], width: usize)
-    requires { width ≤ length grades.old }
-    ensures { grades.new ≡ row_plus G.ops (take width grades.old) (drop width grades.old) ++ drop width grades.old }
+// Merges the grades from `width` on into the first ones.
+fn merge_rest<G, F: Fn(&mut [G], &[G])>(grades: &mut [G], width: usize, merge: F)
+    requires width { width ≤ length grades.old }
+    requires callable { F.IsAlwaysCallable merge }
+    ensures { (op : List G → List G → List G) → ((x : MutBor (List G)) (y : Bor (List G)) (r : Unit {0}) (x' : MutBor (List G)) → F.post merge x y r x' → x'.now ≡ op x.now y.now)
+        → grades.new ≡ op (take width grades.old) (drop width grades.old) ++ drop width grades.old }
 {
     let (row, rest) = grades.split_at_mut(width);
-    add_into(row, rest);
-}
-
-// Joins the grades from `width` on to the first ones.
-fn join_rest<G: Scale>(grades: &mut [G], width: usize)
-    requires { width ≤ length grades.old }
-    ensures { grades.new ≡ row_join G.ops (take width grades.old) (drop width grades.old) ++ drop width grades.old }
-{
-    let (row, rest) = grades.split_at_mut(width);
-    join_into(row, rest);
+    merge(row, rest);
 }
 
 impl<'a, G: Scale> Contexts<'a, G> {
@@ -104,7 +99,7 @@ impl<'a, G: Scale> Contexts<'a, G> {
         ensures room { room self.new ≡ room self.old }
     {
         let at = self.used - top - width;
-        add_rest(&mut self.places[at..self.used], width);
+        merge_rest(&mut self.places[at..self.used], width, add_into);
         self.used -= top;
     }
 
@@ -116,7 +111,7 @@ impl<'a, G: Scale> Contexts<'a, G> {
         ensures room { room self.new ≡ room self.old }
     {
         let at = self.used - width - width;
-        join_rest(&mut self.places[at..self.used], width);
+        merge_rest(&mut self.places[at..self.used], width, join_into);
         self.used -= width;
     }
 

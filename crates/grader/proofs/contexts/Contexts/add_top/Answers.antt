@@ -1,5 +1,6 @@
 use Rattle.std.proofs.Common.{◌+◌, ◌-◌, ◌≤◌, length, ap, ◌∙◌, arith}
 use Rattle.std.proofs.lemmas.List.{length-take-le}
+use Rattle.scales.specs.Rows.{row_plus}
 use Rattle.grader.proofs.Merging.{merged}
 use Rattle.grader.proofs.contexts.Contexts.add_top.Goals as goal
 
@@ -14,4 +15,5 @@ returns-clause-held g c h a b ea eb is =
     let both = ap length held_is in
     let long = length-take-le s.used s.places.now fits in
     let deep : n + m ≤ s.used = omega arith in
-    merged g.G.Scale.ops.plus s.places.now c.add_rest.new.grades s.used n m (s.used - m - n) (s.used - (s.used - m - n)) (s.used - m) fits (omega arith) (omega arith) (omega arith) c.add_rest.ensures h a b ea eb (held_is ∙ is)
+    merged g.G.Scale.ops.plus s.places.now c.merge_rest.new.grades s.used n m (s.used - m - n) (s.used - (s.used - m - n)) (s.used - m) fits (omega arith) (omega arith) (omega arith)
+    (c.merge_rest.ensures (row_plus g.G.Scale.ops) (λ x y r x' p. p)) h a b ea eb (held_is ∙ is)
