@@ -8,6 +8,7 @@ use Rattle.flight.specs.Tables.{Tables, the_spot, no_binding, size_at, new_bindi
 use Rattle.flight.specs.Means.{scope_at, unwind, state_of}
 use Rattle.flight.specs.Sound.{Under, Args, Poised, Leads}
 use Rattle.plan.specs.declared.Leg.{Leg}
+use Rattle.flight.specs.declared.machine.Spot.{Spot}
 use Rattle.flight.specs.declared.machine.What.{What}
 use Rattle.flight.specs.declared.machine.What.TheVariants.{Thunk}
 use Rattle.flight.specs.declared.machine.Binding.{Binding}
@@ -19,8 +20,17 @@ use Rattle.flight.proofs.Keeps.{size_more, sound_opened}
 use Rattle.flight.proofs.Gates.{make_room, make_full, log_length, state_opened, unwind_opened}
 use Rattle.flight.specs.Calling.{call_act, Calls, Calling}
 
-module _ (ns : List Row) (gs : List Leg) (t₀ : Tables) (g : Leg) (m q s d : ℕ) where
-  pub call_start : Calls ns gs t₀ g m q s d → Calling ns gs t₀ t₀ g m q s d 0 (q + 1) 0
+module _ (ns : List Row) (gs : List Leg) (t₀ : Tables) (g : Leg) (m : ℕ) (spot : Spot) where
+  abbrev q : ℕ
+  q = spot.node
+
+  abbrev s : ℕ
+  s = spot.scope
+
+  abbrev d : ℕ
+  d = spot.depth
+
+  pub call_start : Calls ns gs t₀ g m spot → Calling ns gs t₀ t₀ g m spot 0 (q + 1) 0
   call_start C =
       let e : m - 0 ≡ m = omega arith in
       let f : g.binder.index + 0 ≡ g.binder.index = omega arith in
@@ -40,8 +50,8 @@ module _ (ns : List Row) (gs : List Leg) (t₀ : Tables) (g : Leg) (m q s d : �
             (λ σ. byname.begin L (E L g.first σ)) (d + 1) (state_of t₀ y)));
       }
 
-  module _ (t : Tables) (k x i : ℕ) (C : Calling ns gs t₀ t g m q s d k x i) where
-    abbrev P : Poised ns gs t q s d
+  module _ (t : Tables) (k x i : ℕ) (C : Calling ns gs t₀ t g m spot k x i) where
+    abbrev P : Poised ns gs t spot
     P = C.poised
 
     abbrev B : List Binding
@@ -57,7 +67,7 @@ module _ (ns : List Row) (gs : List Leg) (t₀ : Tables) (g : Leg) (m q s d : �
     kid_there lt = (next_arg lt).0.0
 
     pub call_step : k < m → length t.log < 4096
-        → Calling ns gs t₀ (opened (g.binder.index + k) (Thunk x s) i t) g m q s d (k + 1) (end_at ns x) (length B + 1)
+        → Calling ns gs t₀ (opened (g.binder.index + k) (Thunk x s) i t) g m spot (k + 1) (end_at ns x) (length B + 1)
     call_step lt room =
         let w : What = Thunk x s in
         let nb = new_binding B (g.binder.index + k) w i in
@@ -100,7 +110,7 @@ module _ (ns : List Row) (gs : List Leg) (t₀ : Tables) (g : Leg) (m q s d : �
               ∙ C.means E y n);
         }
 
-    pub call_full : k < m → length t.log ≡ 4096 → Leads ns gs t₀ (call_act ns t₀ g m q s d) t (Over Full)
+    pub call_full : k < m → length t.log ≡ 4096 → Leads ns gs t₀ (call_act ns t₀ g m spot) t (Over Full)
     call_full lt full =
         let fr = C.frames in
         let bg = C.begun in
@@ -120,7 +130,7 @@ module _ (ns : List Row) (gs : List Leg) (t₀ : Tables) (g : Leg) (m q s d : �
           begun = C.begun;
         }
 
-    pub call_done : m ≤ k → Leads ns gs t₀ (call_act ns t₀ g m q s d) t (Eval (the_spot g.first i (d + 1)))
+    pub call_done : m ≤ k → Leads ns gs t₀ (call_act ns t₀ g m spot) t (Eval (the_spot g.first i (d + 1)))
     call_done ge =
         let up = C.upto in
         let e : 0 ≡ m - k = omega arith in
@@ -145,6 +155,6 @@ module _ (ns : List Row) (gs : List Leg) (t₀ : Tables) (g : Leg) (m q s d : �
           begun = C.begun;
         }
 
-  pub calling_at : (t t' : Tables) (k x i i' : ℕ) → t' ≡ t → i' ≡ i → Calling ns gs t₀ t g m q s d k x i → Calling ns gs t₀ t' g m q s d k x i'
+  pub calling_at : (t t' : Tables) (k x i i' : ℕ) → t' ≡ t → i' ≡ i → Calling ns gs t₀ t g m spot k x i → Calling ns gs t₀ t' g m spot k x i'
   calling_at t t' k x i i' p e C =
-      subst (λ (u : Tables). Calling ns gs t₀ u g m q s d k x i') (sym p) (subst (λ (j : ℕ). Calling ns gs t₀ t g m q s d k x j) (sym e) C)
+      subst (λ (u : Tables). Calling ns gs t₀ u g m spot k x i') (sym p) (subst (λ (j : ℕ). Calling ns gs t₀ t g m spot k x j) (sym e) C)

@@ -14,6 +14,7 @@ use Rattle.plan.specs.declared.TypeId.{TypeId}
 use Rattle.plan.specs.Trees.{the_binder}
 use Rattle.plan.specs.declared.Node.TheVariants.{Unit as k_unit, Number, Name, Let, Take, Pair, Split, Left, Right, Case, Call, Add, Less}
 use Rattle.plan.specs.declared.Leg.{Leg}
+use Rattle.flight.specs.declared.machine.Spot.{Spot}
 use Rattle.flight.specs.declared.machine.Part.{Part}
 use Rattle.flight.specs.declared.machine.Part.TheVariants.{Nothing, Num, Both, InLeft, InRight}
 use Rattle.flight.specs.declared.machine.What.TheVariants.{Kept}
@@ -94,7 +95,16 @@ module _ (t : Tables) (ns : List Row) (lv : ℕ → ℕ) (S : Sound ns lv t) whe
         second = unit_is ∙ second_rest (grow part_of [] t.values) p h ∙ ap byname.second_of (sym (value_is v p lt e));
       }
 
-module _ (ns : List Row) (gs : List Leg) (t : Tables) (q s d : ℕ) (P : Poised ns gs t q s d) where
+module _ (ns : List Row) (gs : List Leg) (t : Tables) (spot : Spot) (P : Poised ns gs t spot) where
+  abbrev q : ℕ
+  q = spot.node
+
+  abbrev s : ℕ
+  s = spot.scope
+
+  abbrev d : ℕ
+  d = spot.depth
+
   abbrev V : List Part
   V = t.values
 
@@ -106,11 +116,11 @@ module _ (ns : List Row) (gs : List Leg) (t : Tables) (q s d : ℕ) (P : Poised 
 
   -- both values
   pub join_pair : (u v : ℕ) → u < length V → v < length V → Leads ns gs t (join_act t Pair u v) (valued (Both u v) t) (Return (length V))
-  join_pair u v a b = value_leads ns gs t q s d P (join_act t Pair u v) (Both u v) (a, b) (λ E L st. refl)
+  join_pair u v a b = value_leads ns gs t spot P (join_act t Pair u v) (Both u v) (a, b) (λ E L st. refl)
 
   pub join_add : (u v x : ℕ) → x ≡ min (byname.as_number (value_at V u) + byname.as_number (value_at V v)) 4294967295
       → Leads ns gs t (join_act t Add u v) (valued (Num x) t) (Return (length V))
-  join_add u v x e = value_leads ns gs t q s d P (join_act t Add u v) (Num x) (omega arith) (λ E L st. ap (λ n. byname.value (byname.v_number n) st) e)
+  join_add u v x e = value_leads ns gs t spot P (join_act t Add u v) (Num x) (omega arith) (λ E L st. ap (λ n. byname.value (byname.v_number n) st) e)
 
   left_is : value_at V 1 ≡ byname.v_left byname.v_unit
   left_is = let th = P.sound.three in value_is t ns P.lv P.sound 1 (InLeft 0) (omega arith) (sym (left_part (get_or V 1 Nothing) P.sound.yes)) ∙ ap byname.v_left (unit_is t ns P.lv P.sound)
@@ -121,13 +131,13 @@ module _ (ns : List Row) (gs : List Leg) (t : Tables) (q s d : ℕ) (P : Poised 
   pub join_less : (u v : ℕ) → byname.as_number (value_at V u) < byname.as_number (value_at V v) → Leads ns gs t (join_act t Less u v) t (Return 1)
   join_less u v lt =
       let th = P.sound.three in
-      give_leads ns gs t q s d P (join_act t Less u v) 1 (omega arith)
+      give_leads ns gs t spot P (join_act t Less u v) 1 (omega arith)
       (λ E L st. ap (λ x. byname.value x st) (left_is ∙ ap (λ b. cond b (byname.v_left byname.v_unit) (byname.v_right byname.v_unit)) (sym (lt-ltb _ _ lt))))
 
   pub join_more : (u v : ℕ) → byname.as_number (value_at V v) ≤ byname.as_number (value_at V u) → Leads ns gs t (join_act t Less u v) t (Return 2)
   join_more u v le =
       let th = P.sound.three in
-      give_leads ns gs t q s d P (join_act t Less u v) 2 (omega arith)
+      give_leads ns gs t spot P (join_act t Less u v) 2 (omega arith)
       (λ E L st. ap (λ x. byname.value x st) (right_is ∙ ap (λ b. cond b (byname.v_left byname.v_unit) (byname.v_right byname.v_unit)) (sym (le-ltb _ _ le))))
 
   both_rest : (k : Node) (x y : byname.Value) → (k ≡ Pair → ⊥) → (k ≡ Add → ⊥) → (k ≡ Less → ⊥) → y ≡ both k x y
@@ -146,12 +156,12 @@ module _ (ns : List Row) (gs : List Leg) (t : Tables) (q s d : ℕ) (P : Poised 
   both_rest Less x y a b c = absurd (c refl)
 
   pub join_rest : (k : Node) (u v : ℕ) → v < length V → (k ≡ Pair → ⊥) → (k ≡ Add → ⊥) → (k ≡ Less → ⊥) → Leads ns gs t (join_act t k u v) t (Return v)
-  join_rest k u v lt a b c = give_leads ns gs t q s d P (join_act t k u v) v lt (λ E L st. ap (λ x. byname.value x st) (both_rest k (value_at V u) (value_at V v) a b c))
+  join_rest k u v lt a b c = give_leads ns gs t spot P (join_act t k u v) v lt (λ E L st. ap (λ x. byname.value x st) (both_rest k (value_at V u) (value_at V v) a b c))
 
   -- a pair's parts
   module _ (k a b x : ℕ) (la : a < length V) (lb : b < length V) (u : Under ns P.lv x (suc (suc (size_at B s)))) where
-    pub split_none : length t.log ≡ 4096 → Leads ns gs t (split_act t k a b x s d) t (Over Full)
-    split_none e = full_leads ns gs t q s d P (split_act t k a b x s d) (λ E n st l. make_full n k st
+    pub split_none : length t.log ≡ 4096 → Leads ns gs t (split_act t k a b x spot) t (Over Full)
+    split_none e = full_leads ns gs t spot P (split_act t k a b x spot) (λ E n st l. make_full n k st
         (λ m st. byname.make (byname.house n) (k + 1) st
         (λ c st. byname.begin (byname.house n) (E (byname.house n) x (byname.bound (byname.house n) (k + 1) c (byname.kept (value_at V b)) ∷ byname.bound (byname.house n) k m (byname.kept (value_at V a)) ∷ scope_at E (byname.house n) V B s)) (d + 1) st)) l) e
 
@@ -166,14 +176,14 @@ module _ (ns : List Row) (gs : List Leg) (t : Tables) (q s d : ℕ) (P : Poised 
     -- the first binding is made
     halfway : (E : Runner) (y : ℕ → List ℕ) (n : ℕ) → length t.log < 4096
         → unwind E (byname.house n) ns V t₁.bindings K (inner E n (length B) (state_of t₁ y))
-        ≡ unwind E (byname.house n) ns V B K (split_act t k a b x s d E (byname.house n) (state_of t y))
+        ≡ unwind E (byname.house n) ns V B K (split_act t k a b x spot E (byname.house n) (state_of t y))
     halfway E y n lt =
         unwind_opened E (byname.house n) ns P.lv t (new_binding B k (Kept a) s) _ P.sound
         ∙ ap (unwind E (byname.house n) ns V B K)
         (ap (inner E n (length B)) (state_opened t y k (Kept a) s)
         ∙ sym (make_room n k (state_of t y) (inner E n) (subst (λ m. m < 4096) (sym (log_length t y)) lt)))
 
-    pub split_half : length t.log < 4096 → length t₁.log ≡ 4096 → Leads ns gs t (split_act t k a b x s d) t₁ (Over Full)
+    pub split_half : length t.log < 4096 → length t₁.log ≡ 4096 → Leads ns gs t (split_act t k a b x spot) t₁ (Over Full)
     split_half lt e =
         record {
           ready = record { lv = P.lv; lv_is = P.lv_is; laid = P.laid; sound = sound_opened ns P.lv t k (Kept a) s P.sound lt P.scope la; control = tt };
@@ -188,7 +198,7 @@ module _ (ns : List Row) (gs : List Leg) (t : Tables) (q s d : ℕ) (P : Poised 
         }
 
     pub split_both : length t.log < 4096 → length t₁.log < 4096
-        → Leads ns gs t (split_act t k a b x s d) (opened (k + 1) (Kept b) (length B + 1) t₁) (Eval (the_spot x (length t₁.bindings + 1) (d + 1)))
+        → Leads ns gs t (split_act t k a b x spot) (opened (k + 1) (Kept b) (length B + 1) t₁) (Eval (the_spot x (length t₁.bindings + 1) (d + 1)))
     split_both lt lt₁ =
         let nb = new_binding B k (Kept a) s in
         let B₁ = t₁.bindings in
@@ -225,11 +235,11 @@ module _ (ns : List Row) (gs : List Leg) (t : Tables) (q s d : ℕ) (P : Poised 
 
   -- a branch
   module _ (k v : ℕ) (lt : v < length V) (e : kind_at ns q ≡ Case (the_binder k)) where
-    binds_left : (u : ℕ) → u < length V → Binds ns gs t (Kept u) (kid2 ns q) q s d
-    binds_left u h = let l = laid_as ns gs t q s d P (Case (the_binder k)) e in record { poised = P; what = h; body = (l.1.0, l.1.1 ∙ ap suc P.node.1) }
+    binds_left : (u : ℕ) → u < length V → Binds ns gs t (Kept u) (kid2 ns q) spot
+    binds_left u h = let l = laid_as ns gs t spot P (Case (the_binder k)) e in record { poised = P; what = h; body = (l.1.0, l.1.1 ∙ ap suc P.node.1) }
 
-    binds_right : (u : ℕ) → u < length V → Binds ns gs t (Kept u) (kid3 ns q) q s d
-    binds_right u h = let l = laid_as ns gs t q s d P (Case (the_binder k)) e in record { poised = P; what = h; body = (l.2.0, l.2.1 ∙ ap suc P.node.1) }
+    binds_right : (u : ℕ) → u < length V → Binds ns gs t (Kept u) (kid3 ns q) spot
+    binds_right u h = let l = laid_as ns gs t spot P (Case (the_binder k)) e in record { poised = P; what = h; body = (l.2.0, l.2.1 ∙ ap suc P.node.1) }
 
     abbrev on_left : Runner → byname.Limits → byname.State → byname.Value → byname.Out
     on_left E L st v = byname.make L k st (λ b st. byname.begin L (E L (kid2 ns q) (byname.bound L k b (byname.kept v) ∷ scope_at E L V B s)) (d + 1) st)
@@ -238,61 +248,61 @@ module _ (ns : List Row) (gs : List Leg) (t : Tables) (q s d : ℕ) (P : Poised 
     on_right E L st v = byname.make L (k + 1) st (λ b st. byname.begin L (E L (kid3 ns q) (byname.bound L (k + 1) b (byname.kept v) ∷ scope_at E L V B s)) (d + 1) st)
 
     pub case_left : (p : Part) (u : ℕ) (t' : Tables) (c' : Control) → p ≡ get_or V v Nothing → p ≡ InLeft u
-        → (Binds ns gs t (Kept u) (kid2 ns q) q s d → Leads ns gs t (bind_act t k (Kept u) (kid2 ns q) s d) t' c') → Leads ns gs t (case_act ns t k v q s d) t' c'
+        → (Binds ns gs t (Kept u) (kid2 ns q) spot → Leads ns gs t (bind_act t k (Kept u) (kid2 ns q) spot) t' c') → Leads ns gs t (case_act ns t k v spot) t' c'
     case_left p u t' c' x i h =
         let low : u < v = subst (PartOk v) i (part_there t ns P.lv P.sound v p lt x) in
-        leads_as ns gs t (bind_act t k (Kept u) (kid2 ns q) s d) (case_act ns t k v q s d) t' c'
+        leads_as ns gs t (bind_act t k (Kept u) (kid2 ns q) spot) (case_act ns t k v spot) t' c'
         (λ E L st. ap (λ z. byname.either_of z (on_left E L st) (on_right E L st)) (sym (value_is t ns P.lv P.sound v p lt x ∙ ap (part_of (grow part_of [] V)) i))) (h (binds_left u (omega arith)))
 
     pub case_right : (p : Part) (u : ℕ) (t' : Tables) (c' : Control) → p ≡ get_or V v Nothing → p ≡ InRight u
-        → (Binds ns gs t (Kept u) (kid3 ns q) q s d → Leads ns gs t (bind_act t (k + 1) (Kept u) (kid3 ns q) s d) t' c') → Leads ns gs t (case_act ns t k v q s d) t' c'
+        → (Binds ns gs t (Kept u) (kid3 ns q) spot → Leads ns gs t (bind_act t (k + 1) (Kept u) (kid3 ns q) spot) t' c') → Leads ns gs t (case_act ns t k v spot) t' c'
     case_right p u t' c' x i h =
         let low : u < v = subst (PartOk v) i (part_there t ns P.lv P.sound v p lt x) in
-        leads_as ns gs t (bind_act t (k + 1) (Kept u) (kid3 ns q) s d) (case_act ns t k v q s d) t' c'
+        leads_as ns gs t (bind_act t (k + 1) (Kept u) (kid3 ns q) spot) (case_act ns t k v spot) t' c'
         (λ E L st. ap (λ z. byname.either_of z (on_left E L st) (on_right E L st)) (sym (value_is t ns P.lv P.sound v p lt x ∙ ap (part_of (grow part_of [] V)) i))) (h (binds_right u (omega arith)))
 
     pub case_rest : (p : Part) (t' : Tables) (c' : Control) → p ≡ get_or V v Nothing → ((x : ℕ) → p ≡ InLeft x → ⊥) → ((x : ℕ) → p ≡ InRight x → ⊥)
-        → (Binds ns gs t (Kept 0) (kid2 ns q) q s d → Leads ns gs t (bind_act t k (Kept 0) (kid2 ns q) s d) t' c') → Leads ns gs t (case_act ns t k v q s d) t' c'
+        → (Binds ns gs t (Kept 0) (kid2 ns q) spot → Leads ns gs t (bind_act t k (Kept 0) (kid2 ns q) spot) t' c') → Leads ns gs t (case_act ns t k v spot) t' c'
     case_rest p t' c' x a b h =
-        leads_as ns gs t (bind_act t k (Kept 0) (kid2 ns q) s d) (case_act ns t k v q s d) t' c'
+        leads_as ns gs t (bind_act t k (Kept 0) (kid2 ns q) spot) (case_act ns t k v spot) t' c'
         (λ E L st. ap (on_left E L st) (unit_is t ns P.lv P.sound)
         ∙ either_rest (grow part_of [] V) p (on_left E L st) (on_right E L st) a b
         ∙ ap (λ z. byname.either_of z (on_left E L st) (on_right E L st)) (sym (value_is t ns P.lv P.sound v p lt x))) (h (binds_left 0 (omega arith)))
 
   -- after the first kid
   pub after_as : (k : Node) (v : ℕ) → kind_at ns q ≡ k → (t' : Tables) (c' : Control)
-      → Leads ns gs t (λ E L st. after E L ns k q (scope_at E L V B s) d (value_at V v) st) t' c' → Leads ns gs t (after_act ns t q s d v) t' c'
+      → Leads ns gs t (λ E L st. after E L ns k q (scope_at E L V B s) d (value_at V v) st) t' c' → Leads ns gs t (after_act ns t spot v) t' c'
   after_as k v e t' c' h =
-      leads_as ns gs t (λ E L st. after E L ns k q (scope_at E L V B s) d (value_at V v) st) (after_act ns t q s d v) t' c'
+      leads_as ns gs t (λ E L st. after E L ns k q (scope_at E L V B s) d (value_at V v) st) (after_act ns t spot v) t' c'
       (λ E L st. ap (λ (x : Node). after E L ns x q (scope_at E L V B s) d (value_at V v) st) (sym e)) h
 
-  pub take_binds : (k : Binder) (v : ℕ) → kind_at ns q ≡ Take k → v < length V → Binds ns gs t (Kept v) (kid2 ns q) q s d
-  take_binds k v e h = let l = laid_as ns gs t q s d P (Take k) e in record { poised = P; what = h; body = (l.1.0, l.1.1 ∙ ap suc P.node.1) }
+  pub take_binds : (k : Binder) (v : ℕ) → kind_at ns q ≡ Take k → v < length V → Binds ns gs t (Kept v) (kid2 ns q) spot
+  take_binds k v e h = let l = laid_as ns gs t spot P (Take k) e in record { poised = P; what = h; body = (l.1.0, l.1.1 ∙ ap suc P.node.1) }
 
-  pub splits : (k : Binder) (a : ℕ) → kind_at ns q ≡ Split k → a < length V → Splits ns gs t k.index a (kid2 ns q) q s d
+  pub splits : (k : Binder) (a : ℕ) → kind_at ns q ≡ Split k → a < length V → Splits ns gs t k.index a (kid2 ns q) spot
   splits k a e h =
-      let l = laid_as ns gs t q s d P (Split k) e in
+      let l = laid_as ns gs t spot P (Split k) e in
       record { poised = P; value = h; body = (l.1.0, l.1.1 ∙ ap (λ x. suc (suc x)) P.node.1); fits = l.2 }
 
   pub split_as : (k : Binder) (v a b : ℕ) → kind_at ns q ≡ Split k → Halves t v a b → (t' : Tables) (c' : Control)
-      → Leads ns gs t (split_act t k.index a b (kid2 ns q) s d) t' c' → Leads ns gs t (after_act ns t q s d v) t' c'
+      → Leads ns gs t (split_act t k.index a b (kid2 ns q) spot) t' c' → Leads ns gs t (after_act ns t spot v) t' c'
   split_as k v a b e H t' c' h =
       after_as (Split k) v e t' c'
-      (leads_as ns gs t (split_act t k.index a b (kid2 ns q) s d) (λ E L st. after E L ns (Split k) q (scope_at E L V B s) d (value_at V v) st) t' c'
+      (leads_as ns gs t (split_act t k.index a b (kid2 ns q) spot) (λ E L st. after E L ns (Split k) q (scope_at E L V B s) d (value_at V v) st) t' c'
       (λ E L st i. byname.make L k.index st (λ m st. byname.make L (k.index + 1) st
       (λ c st. byname.begin L (E L (kid2 ns q) (byname.bound L (k.index + 1) c (byname.kept (H.second i)) ∷ byname.bound L k.index m (byname.kept (H.first i)) ∷ scope_at E L V B s)) (d + 1) st))) h)
 
   abbrev Two : Node → Type 0
   Two k = (E : Runner) (L : byname.Limits) (ρ : byname.Scope) (v : byname.Value) (st : byname.State) → second E L k ns q ρ d v st ≡ after E L ns k q ρ d v st
 
-  second_waits : (v : ℕ) → v < length V → Under ns P.lv (kid2 ns q) (P.lv q) → Waits ns gs t q s d (Some v) (kid2 ns q)
+  second_waits : (v : ℕ) → v < length V → Under ns P.lv (kid2 ns q) (P.lv q) → Waits ns gs t spot (Some v) (kid2 ns q)
   second_waits v h u = record { poised = P; first = h; kid = (u.0, u.1 ∙ P.node.1) }
 
   second_as : (k : Node) (v : ℕ) → kind_at ns q ≡ k → Two k → (t' : Tables) (c' : Control)
-      → Leads ns gs t (wait_act ns t q s d (Some v) (kid2 ns q)) t' c' → Leads ns gs t (after_act ns t q s d v) t' c'
+      → Leads ns gs t (wait_act ns t spot (Some v) (kid2 ns q)) t' c' → Leads ns gs t (after_act ns t spot v) t' c'
   second_as k v e two t' c' h =
       after_as k v e t' c'
-      (leads_as ns gs t (wait_act ns t q s d (Some v) (kid2 ns q)) (λ E L st. after E L ns k q (scope_at E L V B s) d (value_at V v) st) t' c'
+      (leads_as ns gs t (wait_act ns t spot (Some v) (kid2 ns q)) (λ E L st. after E L ns k q (scope_at E L V B s) d (value_at V v) st) t' c'
       (λ E L st. ap (λ (x : Node). byname.and_then (byname.begin L (E L (kid2 ns q) (scope_at E L V B s)) (d + 1) st) (λ w st. byname.value (both x (value_at V v) w) st)) e
       ∙ two E L (scope_at E L V B s) (value_at V v) st) h)
 
@@ -300,22 +310,22 @@ module _ (ns : List Row) (gs : List Leg) (t : Tables) (q s d : ℕ) (P : Poised 
   abbrev pub Joined : Node → Type 0
   Joined k = (k ≡ Pair) ⊎ ((k ≡ Add) ⊎ (k ≡ Less))
 
-  pub joined_waits : (v : ℕ) → v < length V → Joined (kind_at ns q) → Waits ns gs t q s d (Some v) (kid2 ns q)
+  pub joined_waits : (v : ℕ) → v < length V → Joined (kind_at ns q) → Waits ns gs t spot (Some v) (kid2 ns q)
   joined_waits v h e =
-      let l = laid_as ns gs t q s d P in
+      let l = laid_as ns gs t spot P in
       second_waits v h (⊎_elim (λ p. (l Pair p).1) (⊎_elim (λ p. (l Add p).1) (λ p. (l Less p).1)) e)
 
   pub joined_as : (v : ℕ) → Joined (kind_at ns q) → (t' : Tables) (c' : Control)
-      → Leads ns gs t (wait_act ns t q s d (Some v) (kid2 ns q)) t' c' → Leads ns gs t (after_act ns t q s d v) t' c'
+      → Leads ns gs t (wait_act ns t spot (Some v) (kid2 ns q)) t' c' → Leads ns gs t (after_act ns t spot v) t' c'
   joined_as v e t' c' h =
       ⊎_elim (λ p. second_as Pair v p (λ E L ρ v st. refl) t' c' h)
       (⊎_elim (λ p. second_as Add v p (λ E L ρ v st. refl) t' c' h) (λ p. second_as Less v p (λ E L ρ v st. refl) t' c' h)) e
 
-  pub left_leads : (z : TypeId) (v : ℕ) → kind_at ns q ≡ Left z → v < length V → Leads ns gs t (after_act ns t q s d v) (valued (InLeft v) t) (Return (length V))
-  left_leads z v e h = after_as (Left z) v e _ _ (value_leads ns gs t q s d P _ (InLeft v) h (λ E L st. refl))
+  pub left_leads : (z : TypeId) (v : ℕ) → kind_at ns q ≡ Left z → v < length V → Leads ns gs t (after_act ns t spot v) (valued (InLeft v) t) (Return (length V))
+  left_leads z v e h = after_as (Left z) v e _ _ (value_leads ns gs t spot P _ (InLeft v) h (λ E L st. refl))
 
-  pub right_leads : (z : TypeId) (v : ℕ) → kind_at ns q ≡ Right z → v < length V → Leads ns gs t (after_act ns t q s d v) (valued (InRight v) t) (Return (length V))
-  right_leads z v e h = after_as (Right z) v e _ _ (value_leads ns gs t q s d P _ (InRight v) h (λ E L st. refl))
+  pub right_leads : (z : TypeId) (v : ℕ) → kind_at ns q ≡ Right z → v < length V → Leads ns gs t (after_act ns t spot v) (valued (InRight v) t) (Return (length V))
+  right_leads z v e h = after_as (Right z) v e _ _ (value_leads ns gs t spot P _ (InRight v) h (λ E L st. refl))
 
   after_rest : (E : Runner) (L : byname.Limits) (k : Node) (ρ : byname.Scope) (v : byname.Value) (st : byname.State)
       → ((x : Binder) → k ≡ Take x → ⊥) → ((x : Binder) → k ≡ Split x → ⊥) → ((x : TypeId) → k ≡ Left x → ⊥) → ((x : TypeId) → k ≡ Right x → ⊥) → ((x : Binder) → k ≡ Case x → ⊥) → (k ≡ Pair → ⊥) → (k ≡ Add → ⊥) → (k ≡ Less → ⊥)
@@ -336,9 +346,9 @@ module _ (ns : List Row) (gs : List Leg) (t : Tables) (q s d : ℕ) (P : Poised 
 
   pub rest_leads : (v : ℕ) → v < length V → (let k = kind_at ns q in
       ((x : Binder) → k ≡ Take x → ⊥) → ((x : Binder) → k ≡ Split x → ⊥) → ((x : TypeId) → k ≡ Left x → ⊥) → ((x : TypeId) → k ≡ Right x → ⊥) → ((x : Binder) → k ≡ Case x → ⊥) → (k ≡ Pair → ⊥) → (k ≡ Add → ⊥) → (k ≡ Less → ⊥)
-      → Leads ns gs t (after_act ns t q s d v) t (Return v))
+      → Leads ns gs t (after_act ns t spot v) t (Return v))
   rest_leads v lt h1 h2 h3 h4 h5 h6 h7 h8 =
-      give_leads ns gs t q s d P (after_act ns t q s d v) v lt (λ E L st. after_rest E L (kind_at ns q) (scope_at E L V B s) (value_at V v) st h1 h2 h3 h4 h5 h6 h7 h8)
+      give_leads ns gs t spot P (after_act ns t spot v) v lt (λ E L st. after_rest E L (kind_at ns q) (scope_at E L V B s) (value_at V v) st h1 h2 h3 h4 h5 h6 h7 h8)
 
   pub join_as : (k k' : Node) (u v : ℕ) → k ≡ k' → (t' : Tables) (c' : Control) → Leads ns gs t (join_act t k' u v) t' c' → Leads ns gs t (join_act t k u v) t' c'
   join_as k k' u v e t' c' h = subst (λ (x : Node). Leads ns gs t (join_act t x u v) t' c') (sym e) h

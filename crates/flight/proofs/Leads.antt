@@ -9,6 +9,7 @@ use Rattle.flight.specs.Means.{value_at, part_of, lookup_of, scopes, scope_at, r
 use Rattle.flight.specs.Grow.{grow}
 use Rattle.flight.specs.Sound.{Under, WhatOk, PartOk, FirstOk, Poised, Act, Leads, bind_act, Finds, name_act}
 use Rattle.plan.specs.declared.Leg.{Leg}
+use Rattle.flight.specs.declared.machine.Spot.{Spot}
 use Rattle.flight.specs.declared.machine.Part.{Part}
 use Rattle.flight.specs.declared.machine.What.{What}
 use Rattle.flight.specs.declared.machine.What.TheVariants.{Thunk, Kept, Store}
@@ -39,7 +40,16 @@ pub leads_at : (ns : List Row) (gs : List Leg) (t : Tables) (f : Act) (t' t'' : 
 leads_at ns gs t f t' t'' c' c'' p e l =
     subst (λ (x : Tables). Leads ns gs t f x c'') (sym p) (subst (λ (c : Control). Leads ns gs t f t' c) (sym e) l)
 
-module _ (ns : List Row) (gs : List Leg) (t : Tables) (q s d : ℕ) (P : Poised ns gs t q s d) where
+module _ (ns : List Row) (gs : List Leg) (t : Tables) (spot : Spot) (P : Poised ns gs t spot) where
+  abbrev q : ℕ
+  q = spot.node
+
+  abbrev s : ℕ
+  s = spot.scope
+
+  abbrev d : ℕ
+  d = spot.depth
+
   abbrev V : List Part
   V = t.values
 
@@ -78,10 +88,10 @@ module _ (ns : List Row) (gs : List Leg) (t : Tables) (q s d : ℕ) (P : Poised 
   -- a kid is worked out first
   pub wait_leads : (f : Act) (p : Option ℕ) (k : ℕ) → FirstOk (length V) p → Under ns P.lv k (size_at B s)
       → ((E : Runner) (L : byname.Limits) (st : byname.State)
-      → byname.and_then (byname.begin L (E L k (scope_at E L V B s)) (d + 1) st) (resumed E L ns (value_at V) (record { spot = the_spot q s d; first = p }) (scope_at E L V B s) p) ≡ f E L st)
-      → Leads ns gs t f (pushed (record { spot = the_spot q s d; first = p }) t) (Eval (the_spot k s (d + 1)))
+      → byname.and_then (byname.begin L (E L k (scope_at E L V B s)) (d + 1) st) (resumed E L ns (value_at V) (record { spot = spot; first = p }) (scope_at E L V B s) p) ≡ f E L st)
+      → Leads ns gs t f (pushed (record { spot = spot; first = p }) t) (Eval (the_spot k s (d + 1)))
   wait_leads f p k ok u h =
-      let fr : Frame = record { spot = the_spot q s d; first = p } in
+      let fr : Frame = record { spot = spot; first = p } in
       let e : length (t.frames ++ (fr ∷ [])) ≡ length t.frames + 1 = length-append t.frames (fr ∷ []) in
       let dp = P.deep in
       let ls = P.least in
@@ -115,7 +125,7 @@ module _ (ns : List Row) (gs : List Leg) (t : Tables) (q s d : ℕ) (P : Poised 
   -- a binding, and then a node with it in scope
   pub bind_leads : (k : ℕ) (w : What) (b : ℕ) → length t.log < 4096 → WhatOk ns P.lv B (length V) (length B) w
       → Under ns P.lv b (suc (size_at B s))
-      → Leads ns gs t (bind_act t k w b s d) (opened k w s t) (Eval (the_spot b (length B + 1) (d + 1)))
+      → Leads ns gs t (bind_act t k w b spot) (opened k w s t) (Eval (the_spot b (length B + 1) (d + 1)))
   bind_leads k w b lt ok u =
       let nb = new_binding B k w s in
       let e : length (B ++ (nb ∷ [])) ≡ length B + 1 = length-append B (nb ∷ []) in
@@ -209,17 +219,17 @@ module _ (ns : List Row) (gs : List Leg) (t : Tables) (q s d : ℕ) (P : Poised 
         begun = refl;
       }
 
-  pub bind_full : (k : ℕ) (w : What) (b : ℕ) → length t.log ≡ 4096 → Leads ns gs t (bind_act t k w b s d) t (Over Full)
+  pub bind_full : (k : ℕ) (w : What) (b : ℕ) → length t.log ≡ 4096 → Leads ns gs t (bind_act t k w b spot) t (Over Full)
   bind_full k w b e =
-      full_leads (bind_act t k w b s d)
+      full_leads (bind_act t k w b spot)
       (λ E n st l. make_full n k st
       (λ c st. byname.begin (byname.house n) (E (byname.house n) b (lookup_of E (byname.house n) (value_at V) (scopes E (byname.house n) (value_at V) B) k c w ∷ scope_at E (byname.house n) V B s)) (d + 1) st) l) e
 
   -- a name, once its binding is found
   module _ (l r : ℕ) (b : Binding) (F : Finds t s l r) (x : b ≡ get_or B r no_binding) where
-    named : (w : What) → b.what ≡ w → (t' : Tables) (c' : Control) → Leads ns gs t (found_act b.binder r w) t' c' → Leads ns gs t (name_act t l s d) t' c'
+    named : (w : What) → b.what ≡ w → (t' : Tables) (c' : Control) → Leads ns gs t (found_act b.binder r w) t' c' → Leads ns gs t (name_act t l spot) t' c'
     named w e t' c' h =
-        leads_as ns gs t (found_act b.binder r w) (name_act t l s d) t' c'
+        leads_as ns gs t (found_act b.binder r w) (name_act t l spot) t' c'
         (λ E L st.
         ap₂ (λ (k : ℕ) (u : What). lookup_of E L (value_at V) (scopes E L (value_at V) B) k r u d st) (ap (λ (y : Binding). y.binder) x) (sym e ∙ ap (λ (y : Binding). y.what) x)
         ∙ ap (λ (f : byname.Comp). f d st) (sym (F.1 E L))) h
@@ -227,19 +237,19 @@ module _ (ns : List Row) (gs : List Leg) (t : Tables) (q s d : ℕ) (P : Poised 
     ok : (w : What) → b.what ≡ w → WhatOk ns P.lv B (length V) r w
     ok w e = subst (WhatOk ns P.lv B (length V) r) (ap (λ (y : Binding). y.what) (sym x) ∙ e) (P.sound.bindings r F.0).what
 
-    pub name_full : length t.log ≡ 4096 → Leads ns gs t (name_act t l s d) t (Over Full)
+    pub name_full : length t.log ≡ 4096 → Leads ns gs t (name_act t l spot) t (Over Full)
     name_full e = named b.what refl t (Over Full) (look_full b.binder r b.what e)
 
     pub name_later : (k z : ℕ) → b.what ≡ Thunk k z → length t.log < 4096
-        → Leads ns gs t (name_act t l s d) (noted (Lookup b.binder r) t) (Eval (the_spot k z (d + 1)))
+        → Leads ns gs t (name_act t l spot) (noted (Lookup b.binder r) t) (Eval (the_spot k z (d + 1)))
     name_later k z e lt =
         let o = ok (Thunk k z) e in
         let p = o.0 in
         let q = F.0 in
         named (Thunk k z) e _ _ (look_later b.binder r k z lt o.1 (omega arith))
 
-    pub name_kept : (v : ℕ) → b.what ≡ Kept v → length t.log < 4096 → Leads ns gs t (name_act t l s d) (noted (Lookup b.binder r) t) (Return v)
+    pub name_kept : (v : ℕ) → b.what ≡ Kept v → length t.log < 4096 → Leads ns gs t (name_act t l spot) (noted (Lookup b.binder r) t) (Return v)
     name_kept v e lt = named (Kept v) e _ _ (look_kept b.binder r v lt (ok (Kept v) e))
 
-    pub name_store : b.what ≡ Store → length t.log < 4096 → Leads ns gs t (name_act t l s d) t (Draw b.binder r)
+    pub name_store : b.what ≡ Store → length t.log < 4096 → Leads ns gs t (name_act t l spot) t (Draw b.binder r)
     name_store e lt = named Store e _ _ (look_store b.binder r lt (ok Store e))

@@ -4,10 +4,11 @@ use Rattle.std.proofs.lemmas.Bool.{eqb-false}
 use Rattle.evaluation.specs.Flight.{at}
 use Rattle.evaluation.specs.Flight as byname
 use Rattle.flight.specs.Nodes.{kind_at, node_does}
-use Rattle.flight.specs.Tables.{Tables, the_spot, noted, valued, ticked}
+use Rattle.flight.specs.Tables.{Tables, noted, valued, ticked}
 use Rattle.flight.specs.Means.{value_at, scope_at, unwind, state_of}
 use Rattle.flight.specs.Sound.{Ready, Poised, Leads, node_act, frame_act, Steps}
 use Rattle.plan.specs.declared.Leg.{Leg}
+use Rattle.flight.specs.declared.machine.Spot.{Spot}
 use Rattle.flight.specs.declared.machine.Part.TheVariants.{Num}
 use Rattle.flight.specs.declared.machine.Frame.{Frame}
 use Rattle.flight.specs.declared.machine.Ending.TheVariants.{Long, Deep, Empty}
@@ -20,8 +21,17 @@ use Rattle.flight.proofs.Keeps.{sound_noted, sound_valued, sound_ticked, sound_p
 use Rattle.flight.proofs.Gates.{begin_room, begin_long, begin_deep, state_ticked, state_noted, reverse_push, unwind_valued}
 use Rattle.flight.specs.Calling.{Given}
 
-module _ (ns : List Row) (gs : List Leg) (t : Tables) (q s d : ℕ) (R : Ready ns gs t (Eval (the_spot q s d))) where
-  pub poised : t.begun < 2048 → d < 129 → Poised ns gs (ticked t) q s d
+module _ (ns : List Row) (gs : List Leg) (t : Tables) (spot : Spot) (R : Ready ns gs t (Eval spot)) where
+  abbrev q : ℕ
+  q = spot.node
+
+  abbrev s : ℕ
+  s = spot.scope
+
+  abbrev d : ℕ
+  d = spot.depth
+
+  pub poised : t.begun < 2048 → d < 129 → Poised ns gs (ticked t) spot
   poised lb ld =
       let C = R.control in
       let ro = R.sound.room in
@@ -38,8 +48,8 @@ module _ (ns : List Row) (gs : List Leg) (t : Tables) (q s d : ℕ) (R : Ready n
         slack = omega arith;
       }
 
-  pub begin_works : t.begun < 2048 → d < 129 → (y : ℕ → List ℕ) (t' : Tables) (c' : Control) → Leads ns gs (ticked t) (node_act ns gs (ticked t) q s d) t' c'
-      → Steps ns gs y t (Eval (the_spot q s d)) y t' c'
+  pub begin_works : t.begun < 2048 → d < 129 → (y : ℕ → List ℕ) (t' : Tables) (c' : Control) → Leads ns gs (ticked t) (node_act ns gs (ticked t) spot) t' c'
+      → Steps ns gs y t (Eval spot) y t' c'
   begin_works lb ld y t' c' l =
       let f = l.falls in
       let b = l.begun in
@@ -56,7 +66,7 @@ module _ (ns : List Row) (gs : List Leg) (t : Tables) (q s d : ℕ) (R : Ready n
         most = omega arith;
       }
 
-  pub begin_too_long : 2048 ≤ t.begun → (y : ℕ → List ℕ) → Steps ns gs y t (Eval (the_spot q s d)) y t (Over Long)
+  pub begin_too_long : 2048 ≤ t.begun → (y : ℕ → List ℕ) → Steps ns gs y t (Eval spot) y t (Over Long)
   begin_too_long ge y =
       record {
         ready = record { lv = R.lv; lv_is = R.lv_is; laid = R.laid; sound = R.sound; control = tt };
@@ -67,7 +77,7 @@ module _ (ns : List Row) (gs : List Leg) (t : Tables) (q s d : ℕ) (R : Ready n
         most = omega arith;
       }
 
-  pub begin_too_deep : t.begun < 2048 → 129 ≤ d → (y : ℕ → List ℕ) → Steps ns gs y t (Eval (the_spot q s d)) y t (Over Deep)
+  pub begin_too_deep : t.begun < 2048 → 129 ≤ d → (y : ℕ → List ℕ) → Steps ns gs y t (Eval spot) y t (Over Deep)
   begin_too_deep lb ge y =
       record {
         ready = record { lv = R.lv; lv_is = R.lv_is; laid = R.laid; sound = R.sound; control = tt };
@@ -84,7 +94,7 @@ abbrev pub popped : List Frame → Tables → Tables
 popped fs t = record { frames = fs; bindings = t.bindings; values = t.values; log = t.log; begun = t.begun }
 
 module _ (ns : List Row) (gs : List Leg) (t : Tables) (v : ℕ) (R : Ready ns gs t (Return v)) (fs : List Frame) (f : Frame) (e : t.frames ≡ fs ++ (f ∷ [])) where
-  pub given : Given ns gs (popped fs t) f.spot.node f.spot.scope f.spot.depth f.first v
+  pub given : Given ns gs (popped fs t) f.spot f.first v
   given =
       let p = sound_popped ns R.lv t fs f e R.sound in
       let o = p.1 in

@@ -13,6 +13,7 @@ use Rattle.plan.specs.declared.Binder.{Binder}
 use Rattle.plan.specs.declared.LegId.{LegId}
 use Rattle.plan.specs.declared.Node.TheVariants.{Unit as k_unit, Number, Name, Let, Take, Pair, Split, Left, Right, Case, Call, Add, Less}
 use Rattle.plan.specs.declared.Leg.{Leg}
+use Rattle.flight.specs.declared.machine.Spot.{Spot}
 use Rattle.flight.specs.declared.machine.Part.{Part}
 use Rattle.flight.specs.declared.machine.Part.TheVariants.{Nothing, Num}
 use Rattle.flight.specs.declared.machine.What.TheVariants.{Thunk}
@@ -87,7 +88,16 @@ strict_kid ns gs lv (Call g m) i h l = absurd h
 strict_kid ns gs lv Add i h l = l.0
 strict_kid ns gs lv Less i h l = l.0
 
-module _ (ns : List Row) (gs : List Leg) (t : Tables) (q s d : ℕ) (P : Poised ns gs t q s d) where
+module _ (ns : List Row) (gs : List Leg) (t : Tables) (spot : Spot) (P : Poised ns gs t spot) where
+  abbrev q : ℕ
+  q = spot.node
+
+  abbrev s : ℕ
+  s = spot.scope
+
+  abbrev d : ℕ
+  d = spot.depth
+
   abbrev V : List Part
   V = t.values
 
@@ -98,12 +108,12 @@ module _ (ns : List Row) (gs : List Leg) (t : Tables) (q s d : ℕ) (P : Poised 
   laid_as k e = subst (λ (x : Node). LaidNode ns gs P.lv x q) e (P.laid.each q P.node.0)
 
   pub kind_leads : (k : Node) → kind_at ns q ≡ k → (t' : Tables) (c' : Control)
-      → Leads ns gs t (λ E L st. node_does E L ns gs k q (scope_at E L V B s) d st) t' c' → Leads ns gs t (node_act ns gs t q s d) t' c'
+      → Leads ns gs t (λ E L st. node_does E L ns gs k q (scope_at E L V B s) d st) t' c' → Leads ns gs t (node_act ns gs t spot) t' c'
   kind_leads k e t' c' h =
-      leads_as ns gs t (λ E L st. node_does E L ns gs k q (scope_at E L V B s) d st) (node_act ns gs t q s d) t' c'
+      leads_as ns gs t (λ E L st. node_does E L ns gs k q (scope_at E L V B s) d st) (node_act ns gs t spot) t' c'
       (λ E L st. ap (λ (x : Node). node_does E L ns gs x q (scope_at E L V B s) d st) (sym e)) h
 
-  pub let_binds : (k : Binder) → kind_at ns q ≡ Let k → Binds ns gs t (Thunk (q + 1) s) (kid2 ns q) q s d
+  pub let_binds : (k : Binder) → kind_at ns q ≡ Let k → Binds ns gs t (Thunk (q + 1) s) (kid2 ns q) spot
   let_binds k e =
       let l = laid_as (Let k) e in
       record {
@@ -112,26 +122,26 @@ module _ (ns : List Row) (gs : List Leg) (t : Tables) (q s d : ℕ) (P : Poised 
         body = (l.1.0, l.1.1 ∙ ap suc P.node.1);
       }
 
-  pub calls : (g : LegId) (m : ℕ) → kind_at ns q ≡ Call g m → Calls ns gs t (get_or gs g.index no_leg) m q s d
+  pub calls : (g : LegId) (m : ℕ) → kind_at ns q ≡ Call g m → Calls ns gs t (get_or gs g.index no_leg) m spot
   calls g m e = let l = laid_as (Call g m) e in record { poised = P; args = l.1; leg = l.2; fits = l.3 }
 
-  pub waits : Strict (kind_at ns q) → Waits ns gs t q s d None (q + 1)
+  pub waits : Strict (kind_at ns q) → Waits ns gs t spot None (q + 1)
   waits h =
       let k = strict_kid ns gs P.lv (kind_at ns q) q h (P.laid.each q P.node.0) in
       record { poised = P; first = tt; kid = (k.0, k.1 ∙ P.node.1) }
 
-  pub wait_as : Strict (kind_at ns q) → (t' : Tables) (c' : Control) → Leads ns gs t (wait_act ns t q s d None (q + 1)) t' c'
-      → Leads ns gs t (node_act ns gs t q s d) t' c'
+  pub wait_as : Strict (kind_at ns q) → (t' : Tables) (c' : Control) → Leads ns gs t (wait_act ns t spot None (q + 1)) t' c'
+      → Leads ns gs t (node_act ns gs t spot) t' c'
   wait_as h t' c' l =
-      leads_as ns gs t (wait_act ns t q s d None (q + 1)) (node_act ns gs t q s d) t' c'
+      leads_as ns gs t (wait_act ns t spot None (q + 1)) (node_act ns gs t spot) t' c'
       (λ E L st. strict_does E L ns gs (kind_at ns q) q (scope_at E L V B s) d st h) l
 
-  pub unit_leads : kind_at ns q ≡ k_unit → Leads ns gs t (node_act ns gs t q s d) t (Return 0)
+  pub unit_leads : kind_at ns q ≡ k_unit → Leads ns gs t (node_act ns gs t spot) t (Return 0)
   unit_leads e =
       let th = P.sound.three in
       kind_leads k_unit e t (Return 0)
-      (give_leads ns gs t q s d P _ 0 (omega arith)
+      (give_leads ns gs t spot P _ 0 (omega arith)
       (λ E L st. ap (λ v. byname.value v st) (value_here V 0 (omega arith) (P.sound.values 0 (omega arith)) ∙ ap (part_of (grow part_of [] V)) (nothing_is (get_or V 0 Nothing) P.sound.nothing))))
 
-  pub number_leads : (x : ℕ) → kind_at ns q ≡ Number x → Leads ns gs t (node_act ns gs t q s d) (valued (Num x) t) (Return (length V))
-  number_leads x e = kind_leads (Number x) e _ _ (value_leads ns gs t q s d P _ (Num x) (laid_as (Number x) e) (λ E L st. refl))
+  pub number_leads : (x : ℕ) → kind_at ns q ≡ Number x → Leads ns gs t (node_act ns gs t spot) (valued (Num x) t) (Return (length V))
+  number_leads x e = kind_leads (Number x) e _ _ (value_leads ns gs t spot P _ (Num x) (laid_as (Number x) e) (λ E L st. refl))

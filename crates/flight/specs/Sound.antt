@@ -14,6 +14,7 @@ use Rattle.flight.specs.declared.machine.Part.TheVariants.{Nothing, Num, Both, I
 use Rattle.flight.specs.declared.machine.What.{What}
 use Rattle.flight.specs.declared.machine.What.TheVariants.{Thunk, Kept, Store}
 use Rattle.flight.specs.declared.machine.Binding.{Binding}
+use Rattle.flight.specs.declared.machine.Spot.{Spot}
 use Rattle.flight.specs.declared.machine.Frame.{Frame}
 use Rattle.flight.specs.declared.machine.Control.{Control}
 use Rattle.flight.specs.declared.machine.Control.TheVariants.{Eval, Return, Draw, Over}
@@ -136,16 +137,16 @@ rank (Draw k i) = 3
 abbrev pub left : Tables → Control → ℕ
 left t c = 4 * (2048 - t.begun) + 2 * length t.frames + rank c
 
--- The node q in the scope s at the depth d may go on: its evaluation has begun, and there is room for one more value or frame.
-pub record Poised (ns : List Row) (gs : List Leg) (t : Tables) (q s d : ℕ) : Type 0 where
+-- An evaluation may go on: its evaluation has begun, and there is room for one more value or frame.
+pub record Poised (ns : List Row) (gs : List Leg) (t : Tables) (a : Spot) : Type 0 where
   pub lv : ℕ → ℕ
   pub lv_is : lv ≡ level_of ns gs
   pub laid : Laid ns gs lv
   pub sound : Sound ns lv t
-  pub node : Under ns lv q (size_at t.bindings s)
-  pub scope : s ≤ length t.bindings
-  pub deep : length t.frames < d
-  pub least : d ≤ 128
+  pub node : Under ns lv a.node (size_at t.bindings a.scope)
+  pub scope : a.scope ≤ length t.bindings
+  pub deep : length t.frames < a.depth
+  pub least : a.depth ≤ 128
   pub slack : length t.values + length t.frames + 1 ≤ 3 + t.begun
 
 abbrev pub Act : Type 0
@@ -161,13 +162,13 @@ pub record Leads (ns : List Row) (gs : List Leg) (t : Tables) (f : Act) (t' : Ta
   pub begun : t'.begun ≡ t.begun
 
 -- a new binding of the binder k, and then the node q with it in scope
-abbrev pub bind_act : Tables → ℕ → What → ℕ → ℕ → ℕ → Act
-bind_act t k w q s d E L st =
+abbrev pub bind_act : Tables → ℕ → What → ℕ → Spot → Act
+bind_act t k w q a E L st =
     byname.make L k st
-    (λ b st. byname.begin L (E L q (lookup_of E L (value_at t.values) (scopes E L (value_at t.values) t.bindings) k b w ∷ scope_at E L t.values t.bindings s)) (d + 1) st)
+    (λ b st. byname.begin L (E L q (lookup_of E L (value_at t.values) (scopes E L (value_at t.values) t.bindings) k b w ∷ scope_at E L t.values t.bindings a.scope)) (a.depth + 1) st)
 
-abbrev pub node_act : List Row → List Leg → Tables → ℕ → ℕ → ℕ → Act
-node_act ns gs t q s d E L st = node_does E L ns gs (kind_at ns q) q (scope_at E L t.values t.bindings s) d st
+abbrev pub node_act : List Row → List Leg → Tables → Spot → Act
+node_act ns gs t a E L st = node_does E L ns gs (kind_at ns a.node) a.node (scope_at E L t.values t.bindings a.scope) a.depth st
 
 abbrev pub frame_act : List Row → Tables → Frame → ℕ → Act
 frame_act ns t f v E L st = frame_means E L ns t.values t.bindings f (value_at t.values v) st
@@ -207,14 +208,14 @@ Finds t s l r =
     → at (byname.kept byname.v_unit) (scope_at E L t.values t.bindings s) l
     ≡ lookup_of E L (value_at t.values) (scopes E L (value_at t.values) t.bindings) (get_or t.bindings r no_binding).binder r (get_or t.bindings r no_binding).what)
 
-abbrev pub name_act : Tables → ℕ → ℕ → ℕ → Act
-name_act t l s d E L st = at (byname.kept byname.v_unit) (scope_at E L t.values t.bindings s) l d st
+abbrev pub name_act : Tables → ℕ → Spot → Act
+name_act t l a E L st = at (byname.kept byname.v_unit) (scope_at E L t.values t.bindings a.scope) l a.depth st
 
 -- What a bind asks of its binding: this is WhatOk and the body's scope, for the plan's own count of names.
-pub record Binds (ns : List Row) (gs : List Leg) (t : Tables) (w : What) (b q s d : ℕ) : Type 0 where
-  pub poised : Poised ns gs t q s d
+pub record Binds (ns : List Row) (gs : List Leg) (t : Tables) (w : What) (b : ℕ) (a : Spot) : Type 0 where
+  pub poised : Poised ns gs t a
   pub what : WhatOk ns poised.lv t.bindings (length t.values) (length t.bindings) w
-  pub body : Under ns poised.lv b (suc (size_at t.bindings s))
+  pub body : Under ns poised.lv b (suc (size_at t.bindings a.scope))
 
 -- the same at the plan's own count of names
 pub record Fine (ns : List Row) (gs : List Leg) (t : Tables) (c : Control) : Type 0 where

@@ -7,15 +7,6 @@ ghost use Rattle.flight.specs.Means.{entry_of};
 
 use super::{Entry, Event, Machine};
 
-fn lookups_in(log: &[Entry], binding: u16) -> u16
-    requires { length log.now ≤ 4096 }
-    ensures { result ≡ lookups binding (map entry_of log.now) }
-{
-    log.iter()
-        .filter(|e| e.event == Event::Lookup && binding == e.binding)
-        .count() as u16
-}
-
 impl Machine {
     pub(crate) fn log_len(&self) -> usize
         ensures { result ≡ length (tables self.now).log }
@@ -34,6 +25,9 @@ impl Machine {
         requires { length (tables self.now).log ≤ 4096 }
         ensures { result ≡ lookups binding (map entry_of (tables self.now).log) }
     {
-        lookups_in(self.log.as_slice(), binding)
+        self.log
+            .iter()
+            .filter(|e| e.event == Event::Lookup && binding == e.binding)
+            .count() as u16
     }
 }

@@ -3,7 +3,7 @@ ghost use Rattle.flight.specs.Tables.{tables};
 ghost use Rattle.flight.specs.Sound.{Ready};
 ghost use Rattle.flight.specs.Spelled.{Main, Begun, blank};
 
-use super::{Binding, Code, Control, Ending, Entry, Frame, Machine, Part, Spot, What};
+use super::{Code, Control, Ending, Machine, Part, Spot, What};
 use crate::limits::{MAX_DEPTH, MAX_ENTRIES, MAX_VALUES};
 use plan::Leg;
 use std::alloc::{AllocError, Global};
@@ -23,15 +23,11 @@ fn preset(values: &mut Vec<Part>)
 impl Machine {
     // A machine with all its memory, which has no flight yet.
     pub(crate) fn new(heap: Global) -> Result<Machine, AllocError> {
-        let frames: Vec<Frame> = Vec::with_capacity(heap, MAX_DEPTH as usize)?;
-        let bindings: Vec<Binding> = Vec::with_capacity(heap, MAX_ENTRIES)?;
-        let values: Vec<Part> = Vec::with_capacity(heap, MAX_VALUES)?;
-        let log: Vec<Entry> = Vec::with_capacity(heap, MAX_ENTRIES)?;
         Ok(Machine {
-            frames,
-            bindings,
-            values,
-            log,
+            frames: Vec::with_capacity(heap, usize::from(MAX_DEPTH))?,
+            bindings: Vec::with_capacity(heap, MAX_ENTRIES)?,
+            values: Vec::with_capacity(heap, MAX_VALUES)?,
+            log: Vec::with_capacity(heap, MAX_ENTRIES)?,
             begun: 0,
             control: Control::Over(Ending::Long),
         })

@@ -1,4 +1,4 @@
-ghost use Rattle.std.specs.Prelude.{◌≡◌, ℕ, ◌+◌, ◌<◌, ◌≤◌, None, List, length};
+ghost use Rattle.std.specs.Prelude.{◌≡◌, ℕ, ◌+◌, ◌<◌, ◌≤◌, None, IfNone, OnSome, IfSome, List, length, slice_index_or};
 ghost use Rattle.flight.specs.Tables.{tables, the_spot, size_at, opened, noted, Lookup, valued, pushed};
 ghost use Rattle.flight.specs.Sound.{Poised, Leads, Tabled, Finds, Binds, bind_act, name_act, node_act, frame_act};
 ghost use Rattle.flight.specs.Calling.{Calls, call_act, Waits, wait_act, Given, split_act, Splits, Halves, case_act, CasesOn, join_act, Joins, after_act};
@@ -93,6 +93,22 @@ impl Machine {
         number + 1
     }
 
+    // The same, unless the log is full.
+    fn try_open(&mut self, binder: u16, what: What, parent: u16) -> Option<u16>
+        requires sound { Tabled (tables self.old) }
+        requires within { parent ≤ length (tables self.old).bindings }
+        ensures full { IfNone result ((length (tables self.old).log ≡ 4096) × (tables self.new ≡ tables self.old)) }
+        ensures room { OnSome result (length (tables self.old).log < 4096) }
+        ensures tables { OnSome result (tables self.new ≡ opened binder what parent (tables self.old)) }
+        ensures scope { IfSome result (λ inner. inner ≡ length (tables self.old).bindings + 1) }
+    {
+        if self.log.len() == MAX_ENTRIES {
+            None
+        } else {
+            Some(self.open(binder, what, parent))
+        }
+    }
+
     // The binding that a name at a level means in a scope.
     fn find(&self, scope: u16, level: u16) -> u16
         requires sound { Tabled (tables self.now) }
@@ -113,7 +129,7 @@ impl Machine {
         requires within { spot.scope ≤ length (tables self.old).bindings }
         requires named { level < size_at (tables self.old).bindings spot.scope }
         requires deep { spot.depth ≤ 128 }
-        ensures { (ns : List Row) (gs : List Leg) → Poised ns gs (tables self.old) spot.node spot.scope spot.depth → Leads ns gs (tables self.old) (name_act (tables self.old) level spot.scope spot.depth) (tables self.new) result }
+        ensures { (ns : List Row) (gs : List Leg) → Poised ns gs (tables self.old) spot → Leads ns gs (tables self.old) (name_act (tables self.old) level spot) (tables self.new) result }
     {
         let at = self.find(spot.scope, level);
         let b = self.bindings[at as usize];
@@ -138,20 +154,19 @@ impl Machine {
         requires sound { Tabled (tables self.old) }
         requires within { spot.scope ≤ length (tables self.old).bindings }
         requires deep { spot.depth ≤ 128 }
-        ensures { (ns : List Row) (gs : List Leg) → Binds ns gs (tables self.old) what body spot.node spot.scope spot.depth → Leads ns gs (tables self.old) (bind_act (tables self.old) binder what body spot.scope spot.depth) (tables self.new) result }
+        ensures { (ns : List Row) (gs : List Leg) → Binds ns gs (tables self.old) what body spot → Leads ns gs (tables self.old) (bind_act (tables self.old) binder what body spot) (tables self.new) result }
     {
-        if self.log.len() == MAX_ENTRIES {
-            return Control::Over(Ending::Full);
+        match self.try_open(binder, what, spot.scope) {
+            None => Control::Over(Ending::Full),
+            Some(inner) => Control::Eval(spot.below(body, inner)),
         }
-        let inner = self.open(binder, what, spot.scope);
-        Control::Eval(spot.below(body, inner))
     }
 
     // Waits for a kid of the node.
     fn wait(&mut self, spot: Spot, first: Option<u16>, kid: u16) -> Control
         requires room { length (tables self.old).frames < 128 }
         requires deep { spot.depth ≤ 128 }
-        ensures { (ns : List Row) (gs : List Leg) → Waits ns gs (tables self.old) spot.node spot.scope spot.depth first kid → Leads ns gs (tables self.old) (wait_act ns (tables self.old) spot.node spot.scope spot.depth first kid) (tables self.new) result }
+        ensures { (ns : List Row) (gs : List Leg) → Waits ns gs (tables self.old) spot first kid → Leads ns gs (tables self.old) (wait_act ns (tables self.old) spot first kid) (tables self.new) result }
     {
         self.push(Frame { spot, first });
         Control::Eval(spot.below(kid, spot.scope))
@@ -159,20 +174,17 @@ impl Machine {
 
     // Binds the arguments of a call, and begins the leg's body.
     fn call(&mut self, code: Code, spot: Spot, leg: &Leg, count: u8) -> Control
-        requires { Calls code.nodes.now code.legs.now (tables self.old) leg.now count spot.node spot.scope spot.depth }
-        ensures { Leads code.entry.nodes.now code.entry.legs.now (tables self.old) (call_act code.entry.nodes.now (tables self.old) leg.now count spot.node spot.scope spot.depth) (tables self.new) result }
+        requires { Calls code.nodes.now code.legs.now (tables self.old) leg.now count spot }
+        ensures { Leads code.entry.nodes.now code.entry.legs.now (tables self.old) (call_act code.entry.nodes.now (tables self.old) leg.now count spot) (tables self.new) result }
     {
         let mut inner = 0;
         let mut kid = spot.node + 1;
         for k in 0..count {
-            if self.log.len() == MAX_ENTRIES {
+            let binder = leg.binder.index + u16::from(k);
+            let Some(scope) = self.try_open(binder, What::Thunk(kid, spot.scope), inner) else {
                 return Control::Over(Ending::Full);
-            }
-            inner = self.open(
-                leg.binder.index + u16::from(k),
-                What::Thunk(kid, spot.scope),
-                inner,
-            );
+            };
+            inner = scope;
             kid = code.nodes[kid as usize].end;
         }
         Control::Eval(spot.below(leg.first, inner))
@@ -180,8 +192,8 @@ impl Machine {
 
     // What a node does once its evaluation has begun.
     pub(super) fn work(&mut self, code: Code, spot: Spot) -> Control
-        requires { Poised code.nodes.now code.legs.now (tables self.old) spot.node spot.scope spot.depth }
-        ensures { Leads code.entry.nodes.now code.entry.legs.now (tables self.old) (node_act code.entry.nodes.now code.entry.legs.now (tables self.old) spot.node spot.scope spot.depth) (tables self.new) result }
+        requires { Poised code.nodes.now code.legs.now (tables self.old) spot }
+        ensures { Leads code.entry.nodes.now code.entry.legs.now (tables self.old) (node_act code.entry.nodes.now code.entry.legs.now (tables self.old) spot) (tables self.new) result }
     {
         let node = spot.node;
         match code.nodes[node as usize].node {
@@ -198,12 +210,19 @@ impl Machine {
         }
     }
 
+    fn part(&self, v: u16) -> Part
+        requires { v < length (tables self.now).values }
+        ensures { result ≡ slice_index_or (tables self.now).values v Part.Nothing }
+    {
+        self.values[v as usize]
+    }
+
     pub(super) fn number(&self, v: u16) -> u32
         requires sound { Tabled (tables self.now) }
         requires there { v < length (tables self.now).values }
         ensures { result ≡ as_number (value_at (tables self.now).values v) }
     {
-        match self.values[v as usize] {
+        match self.part(v) {
             Part::Num(x) => x,
             _ => 0,
         }
@@ -214,7 +233,7 @@ impl Machine {
         requires there { v < length (tables self.now).values }
         ensures { Halves (tables self.now) v result.0 result.1 }
     {
-        match self.values[v as usize] {
+        match self.part(v) {
             Part::Both(a, b) => (a, b),
             _ => (0, 0),
         }
@@ -228,26 +247,24 @@ impl Machine {
         requires first { parts.0 < length (tables self.old).values }
         requires second { parts.1 < length (tables self.old).values }
         requires fits { binder < 65535 }
-        ensures { (ns : List Row) (gs : List Leg) → Splits ns gs (tables self.old) binder parts.0 body spot.node spot.scope spot.depth → Leads ns gs (tables self.old) (split_act (tables self.old) binder parts.0 parts.1 body spot.scope spot.depth) (tables self.new) result }
+        ensures { (ns : List Row) (gs : List Leg) → Splits ns gs (tables self.old) binder parts.0 body spot → Leads ns gs (tables self.old) (split_act (tables self.old) binder parts.0 parts.1 body spot) (tables self.new) result }
     {
-        if self.log.len() == MAX_ENTRIES {
+        let Some(outer) = self.try_open(binder, What::Kept(parts.0), spot.scope) else {
             return Control::Over(Ending::Full);
-        }
-        let outer = self.open(binder, What::Kept(parts.0), spot.scope);
-        if self.log.len() == MAX_ENTRIES {
+        };
+        let Some(inner) = self.try_open(binder + 1, What::Kept(parts.1), outer) else {
             return Control::Over(Ending::Full);
-        }
-        let inner = self.open(binder + 1, What::Kept(parts.1), outer);
+        };
         Control::Eval(spot.below(body, inner))
     }
 
     // Goes on with the branch that the value says.
     fn branch(&mut self, code: Code, spot: Spot, binder: u16, v: u16) -> Control
-        requires { CasesOn code.nodes.now code.legs.now (tables self.old) binder v spot.node spot.scope spot.depth }
-        ensures { Leads code.entry.nodes.now code.entry.legs.now (tables self.old) (case_act code.entry.nodes.now (tables self.old) binder v spot.node spot.scope spot.depth) (tables self.new) result }
+        requires { CasesOn code.nodes.now code.legs.now (tables self.old) binder v spot }
+        ensures { Leads code.entry.nodes.now code.entry.legs.now (tables self.old) (case_act code.entry.nodes.now (tables self.old) binder v spot) (tables self.new) result }
     {
         let left = code.after_first(spot.node);
-        match self.values[v as usize] {
+        match self.part(v) {
             Part::InLeft(u) => self.bind(spot, binder, What::Kept(u), left),
             Part::InRight(u) => {
                 let right = code.nodes[left as usize].end;
@@ -263,7 +280,7 @@ impl Machine {
         requires one { u < length (tables self.old).values }
         requires two { v < length (tables self.old).values }
         requires room { length (tables self.old).values < 2051 }
-        ensures { (ns : List Row) (gs : List Leg) (q s d : ℕ) → Joins ns gs (tables self.old) u v q s d → Leads ns gs (tables self.old) (join_act (tables self.old) kind u v) (tables self.new) result }
+        ensures { (ns : List Row) (gs : List Leg) (spot : Spot) → Joins ns gs (tables self.old) u v spot → Leads ns gs (tables self.old) (join_act (tables self.old) kind u v) (tables self.new) result }
     {
         match kind {
             Node::Pair => Control::Return(self.value(Part::Both(u, v))),
@@ -282,8 +299,8 @@ impl Machine {
 
     // What a node does once its first kid gave a value.
     fn after(&mut self, code: Code, spot: Spot, v: u16) -> Control
-        requires { Given code.nodes.now code.legs.now (tables self.old) spot.node spot.scope spot.depth None v }
-        ensures { Leads code.entry.nodes.now code.entry.legs.now (tables self.old) (after_act code.entry.nodes.now (tables self.old) spot.node spot.scope spot.depth v) (tables self.new) result }
+        requires { Given code.nodes.now code.legs.now (tables self.old) spot None v }
+        ensures { Leads code.entry.nodes.now code.entry.legs.now (tables self.old) (after_act code.entry.nodes.now (tables self.old) spot v) (tables self.new) result }
     {
         let node = spot.node;
         match code.nodes[node as usize].node {
@@ -309,7 +326,7 @@ impl Machine {
 
     // A frame is given the value that it waits for.
     pub(super) fn resume(&mut self, code: Code, frame: Frame, v: u16) -> Control
-        requires { Given code.nodes.now code.legs.now (tables self.old) frame.spot.node frame.spot.scope frame.spot.depth frame.first v }
+        requires { Given code.nodes.now code.legs.now (tables self.old) frame.spot frame.first v }
         ensures { Leads code.entry.nodes.now code.entry.legs.now (tables self.old) (frame_act code.entry.nodes.now (tables self.old) frame v) (tables self.new) result }
     {
         let spot = frame.spot;

@@ -1,4 +1,4 @@
-use Rattle.std.proofs.Common.{List, sym, refl, ◌∙◌, subst₂}
+use Rattle.std.proofs.Common.{List, sym, subst₂}
 use Rattle.plan.specs.declared.Row.{Row}
 use Rattle.plan.specs.declared.Leg.{Leg}
 use Rattle.flight.specs.Tables.{tables}
@@ -6,7 +6,7 @@ use Rattle.flight.specs.Sound.{Ready}
 use Rattle.flight.specs.Fly.{Flies}
 use Rattle.flight.specs.Held.{rows_of, legs_of}
 use Rattle.flight.proofs.Props.{ready_of}
-use Rattle.flight.proofs.Going.{told_same, goes_on}
+use Rattle.flight.proofs.Going.{goes_on}
 use Rattle.flight.proofs.flight.Flight.advance.Goals as goal
 
 pub fly-requires : goal.fly-requires
@@ -17,19 +17,8 @@ fly-requires g c =
     subst₂ (λ (ns : List Row) (gs : List Leg). Ready ns gs (tables m) m.control) (sym e.nodes) (sym e.legs)
     (ready_of (rows_of s.plan) (legs_of s.plan) (tables m) m.control s.ready)
 
-pub invariant_of-self : goal.invariant_of-self
-invariant_of-self g c =
-    let s = c.args.self.now in
-    let m = c.fly.new.self in
-    let e = c.code_of.ensures in
-    record {
-      legs = s.legs;
-      main = s.main;
-      ready = ∣ subst₂ (λ (ns : List Row) (gs : List Leg). Ready ns gs (tables m) m.control) e.nodes e.legs c.fly.ensures.ready ∣₁;
-    }
-
-pub returns : goal.returns
-returns g c =
+pub returns-clause-flies : goal.returns-clause-flies
+returns-clause-flies g c p y₀ N A =
     let q = c.args.self.now.plan in
     let y = g.B.Bay.readings c.args.bay.now in
     let z = g.B.Bay.readings c.fly.new.bay in
@@ -37,14 +26,6 @@ returns g c =
     let w = c.fly.new.self in
     let n = c.args.n in
     let e = c.code_of.ensures in
-    let on : Flies (rows_of q) (legs_of q) n y (tables m) m.control z (tables w) w.control
-    = subst₂ (λ (ns : List Row) (gs : List Leg). Flies ns gs n y (tables m) m.control z (tables w) w.control) e.nodes e.legs c.fly.ensures.flies in
-    record {
-      plan = refl;
-      flies = λ p y₀ N A. (
-          let r = goes_on q A.flyable (tables m) (tables w) m.control w.control y z n on p y₀ N A.aloft in
-          record { flyable = A.flyable; plan = A.plan; out = r.1; aloft = r.0 });
-      told = c.fly.ensures.told ∙ told_same z (tables w) w.control;
-      begun = c.fly.ensures.begun;
-      most = c.fly.ensures.most;
-    }
+    let on = subst₂ (λ (ns : List Row) (gs : List Leg). Flies ns gs n y (tables m) m.control z (tables w) w.control) e.nodes e.legs c.fly.ensures.flies in
+    let r = goes_on q A.flyable (tables m) (tables w) m.control w.control y z n on p y₀ N A.aloft in
+    record { flyable = A.flyable; plan = A.plan; out = r.1; aloft = r.0 }

@@ -1,24 +1,17 @@
-use Rattle.std.proofs.Common.{◌≡◌, ℕ, ◌+◌, ◌<◌, length, ap, ◌∙◌, arith, rules}
+use Rattle.std.proofs.Common.{ℕ, ◌+◌, refl, ap, ◌∙◌}
 use Rattle.flight.specs.Tables.{tables, the_spot}
-use Rattle.flight.specs.Sound.{bind_act}
 use Rattle.flight.specs.declared.machine.Control.TheVariants.{Eval}
 use Rattle.flight.proofs.Leads.{leads_at, bind_leads, bind_full}
 use Rattle.flight.proofs.machine.Machine.bind.Goals as goal
 
-pub returns-then-len-eq-MAX_ENTRIES : goal.returns-then-len-eq-MAX_ENTRIES
-returns-then-len-eq-MAX_ENTRIES c ns gs H =
-    let t = tables c.args.self.now in
-    let P = H.poised in
-    let full : length t.log ≡ 4096 = search rules in
-    bind_full ns gs t c.args.spot.node c.args.spot.scope c.args.spot.depth P c.args.binder c.args.what c.args.body full
+pub returns-in-None : goal.returns-in-None
+returns-in-None c ns gs H =
+    let e = c.in-None.ensures.full in
+    leads_at ns gs (tables c.args.self.now) _ _ _ _ _ e.1 refl
+    (bind_full ns gs (tables c.args.self.now) c.args.spot H.poised c.args.binder c.args.what c.args.body e.0)
 
-pub returns : goal.returns
-returns c ns gs H =
-    let t = tables c.args.self.now in
-    let P = H.poised in
-    let few = P.sound.log in
-    let len : c.len.result ≡ length t.log = search rules in
-    let lt : length t.log < 4096 = omega arith in
-    let f = bind_act t c.args.binder c.args.what c.args.body c.args.spot.scope c.args.spot.depth in
-    leads_at ns gs t f _ _ _ _ c.open-inner.ensures.tables (ap Eval (c.below.ensures ∙ ap (λ (i : ℕ). the_spot c.args.body i (c.args.spot.depth + 1)) c.open-inner.ensures.scope))
-    (bind_leads ns gs t c.args.spot.node c.args.spot.scope c.args.spot.depth P c.args.binder c.args.what c.args.body lt H.what H.body)
+pub returns-in-Some : goal.returns-in-Some
+returns-in-Some c ns gs H =
+    let e = c.in-Some.ensures in
+    leads_at ns gs (tables c.args.self.now) _ _ _ _ _ e.tables (ap Eval (c.below.ensures ∙ ap (λ (i : ℕ). the_spot c.args.body i (c.args.spot.depth + 1)) e.scope))
+    (bind_leads ns gs (tables c.args.self.now) c.args.spot H.poised c.args.binder c.args.what c.args.body e.room H.what H.body)

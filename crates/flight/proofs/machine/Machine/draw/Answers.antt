@@ -2,13 +2,8 @@ use Rattle.std.proofs.Common.{◌<◌, length, ap, ◌∙◌, rules}
 use Rattle.flight.specs.Tables.{Tables, tables, valued}
 use Rattle.flight.specs.declared.machine.Part.TheVariants.{Num}
 use Rattle.flight.specs.declared.machine.Control.TheVariants.{Return}
-use Rattle.flight.proofs.Step.{draw_none, draw_some, steps_at}
+use Rattle.flight.proofs.Step.{draw_some, steps_at}
 use Rattle.flight.proofs.machine.Machine.draw.Goals as goal
-
-pub returns-in-None : goal.returns-in-None
-returns-in-None g c ns gs R =
-    let h = c.in-None.ensures.draws in
-    draw_none ns gs (tables c.args.self.now) c.args.binder c.args.store R (g.B.Bay.readings c.args.bay.now) (g.B.Bay.readings c.draw.new.self) h.0 h.1
 
 pub returns-in-Some : goal.returns-in-Some
 returns-in-Some g c ns gs R =

@@ -3,35 +3,32 @@ use Rattle.flight.specs.Tables.{tables}
 use Rattle.plan.specs.declared.Node.TheVariants.{Pair, Add, Less}
 use Rattle.flight.specs.declared.machine.Control.TheVariants.{Return}
 use Rattle.flight.proofs.Leads.{leads_at}
-use Rattle.flight.proofs.Giving.{join_pair, join_add, join_less, join_more, join_rest, join_as}
+use Rattle.flight.proofs.Giving.{join_pair, join_add, join_less, join_more, join_as}
 use Rattle.flight.proofs.machine.Machine.join.Goals as goal
 
 pub returns-in-Pair : goal.returns-in-Pair
-returns-in-Pair c ns gs q s d J =
-    join_as ns gs (tables c.args.self.now) q s d J.poised _ Pair c.args.u c.args.v c.in-Pair.is _ _
+returns-in-Pair c ns gs spot J =
+    join_as ns gs (tables c.args.self.now) spot J.poised _ Pair c.args.u c.args.v c.in-Pair.is _ _
     (leads_at ns gs (tables c.args.self.now) _ _ _ _ _ c.value.ensures.tables (ap Return c.value.ensures.place)
-    (join_pair ns gs (tables c.args.self.now) q s d J.poised c.args.u c.args.v c.requires.one c.requires.two))
+    (join_pair ns gs (tables c.args.self.now) spot J.poised c.args.u c.args.v c.requires.one c.requires.two))
 
 pub returns-in-Add : goal.returns-in-Add
-returns-in-Add c ns gs q s d J =
-    join_as ns gs (tables c.args.self.now) q s d J.poised _ Add c.args.u c.args.v c.in-Add.is _ _
+returns-in-Add c ns gs spot J =
+    join_as ns gs (tables c.args.self.now) spot J.poised _ Add c.args.u c.args.v c.in-Add.is _ _
     (leads_at ns gs (tables c.args.self.now) _ _ _ _ _ c.value-in-Add.ensures.tables (ap Return c.value-in-Add.ensures.place)
-    (join_add ns gs (tables c.args.self.now) q s d J.poised c.args.u c.args.v c.saturating_add-sum.result
+    (join_add ns gs (tables c.args.self.now) spot J.poised c.args.u c.args.v c.saturating_add-sum.result
     (c.saturating_add-sum.ensures ∙ ap₂ (λ (x y : ℕ). min (x + y) 4294967295) c.number.ensures c.number-in-Add.ensures)))
 
 pub returns-then-number : goal.returns-then-number
-returns-then-number c ns gs q s d J =
+returns-then-number c ns gs spot J =
     let a = c.number-in-Less.ensures in
     let b = c.number-in-Less-2.ensures in
     let t = c.if-number.true in
-    join_as ns gs (tables c.args.self.now) q s d J.poised _ Less c.args.u c.args.v c.in-Less.is _ _ (join_less ns gs (tables c.args.self.now) q s d J.poised c.args.u c.args.v (omega arith))
+    join_as ns gs (tables c.args.self.now) spot J.poised _ Less c.args.u c.args.v c.in-Less.is _ _ (join_less ns gs (tables c.args.self.now) spot J.poised c.args.u c.args.v (omega arith))
 
 pub returns-else-number : goal.returns-else-number
-returns-else-number c ns gs q s d J =
+returns-else-number c ns gs spot J =
     let a = c.number-in-Less.ensures in
     let b = c.number-in-Less-2.ensures in
     let t = c.if-number.false in
-    join_as ns gs (tables c.args.self.now) q s d J.poised _ Less c.args.u c.args.v c.in-Less.is _ _ (join_more ns gs (tables c.args.self.now) q s d J.poised c.args.u c.args.v (omega arith))
-
-pub returns-in_default : goal.returns-in_default
-returns-in_default c ns gs q s d J = join_rest ns gs (tables c.args.self.now) q s d J.poised c.args.kind c.args.u c.args.v c.requires.two c.in_default.not-Pair c.in_default.not-Add c.in_default.not-Less
+    join_as ns gs (tables c.args.self.now) spot J.poised _ Less c.args.u c.args.v c.in-Less.is _ _ (join_more ns gs (tables c.args.self.now) spot J.poised c.args.u c.args.v (omega arith))

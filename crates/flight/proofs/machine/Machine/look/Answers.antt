@@ -2,15 +2,8 @@ use Rattle.std.proofs.Common.{◌≡◌, ◌<◌, length, get_or, refl, ap, arit
 use Rattle.std.proofs.lemmas.List.{get_or_read}
 use Rattle.flight.specs.Tables.{tables, no_binding}
 use Rattle.flight.specs.declared.machine.Control.TheVariants.{Eval}
-use Rattle.flight.proofs.Leads.{leads_at, name_full, name_later, name_kept, name_store}
+use Rattle.flight.proofs.Leads.{leads_at, name_later, name_kept, name_store}
 use Rattle.flight.proofs.machine.Machine.look.Goals as goal
-
-pub returns-then-len-eq-MAX_ENTRIES : goal.returns-then-len-eq-MAX_ENTRIES
-returns-then-len-eq-MAX_ENTRIES c ns gs P =
-    let t = tables c.args.self.now in
-    let full : length t.log ≡ 4096 = search rules in
-    let x : c.index-b.result.now ≡ get_or t.bindings c.find-at.result no_binding = search (rules, get_or_read) in
-    name_full ns gs t c.args.spot.node c.args.spot.scope c.args.spot.depth P c.args.level c.find-at.result c.index-b.result.now c.find-at.ensures x full
 
 pub returns-in-Thunk : goal.returns-in-Thunk
 returns-in-Thunk c ns gs P =
@@ -20,7 +13,7 @@ returns-in-Thunk c ns gs P =
     let lt : length t.log < 4096 = omega arith in
     let x : c.index-b.result.now ≡ get_or t.bindings c.find-at.result no_binding = search (rules, get_or_read) in
     leads_at ns gs t _ _ _ _ _ c.note_lookup.ensures (ap Eval c.below.ensures)
-    (name_later ns gs t c.args.spot.node c.args.spot.scope c.args.spot.depth P c.args.level c.find-at.result c.index-b.result.now c.find-at.ensures x
+    (name_later ns gs t c.args.spot P c.args.level c.find-at.result c.index-b.result.now c.find-at.ensures x
     c.in-Thunk.kid c.in-Thunk.outer c.in-Thunk.is lt)
 
 pub returns-in-Kept : goal.returns-in-Kept
@@ -31,7 +24,7 @@ returns-in-Kept c ns gs P =
     let lt : length t.log < 4096 = omega arith in
     let x : c.index-b.result.now ≡ get_or t.bindings c.find-at.result no_binding = search (rules, get_or_read) in
     leads_at ns gs t _ _ _ _ _ c.note_lookup-in-Kept.ensures refl
-    (name_kept ns gs t c.args.spot.node c.args.spot.scope c.args.spot.depth P c.args.level c.find-at.result c.index-b.result.now c.find-at.ensures x
+    (name_kept ns gs t c.args.spot P c.args.level c.find-at.result c.index-b.result.now c.find-at.ensures x
     c.in-Kept.v c.in-Kept.is lt)
 
 pub returns-in-Store : goal.returns-in-Store
@@ -41,5 +34,5 @@ returns-in-Store c ns gs P =
     let len : c.len.result ≡ length t.log = search rules in
     let lt : length t.log < 4096 = omega arith in
     let x : c.index-b.result.now ≡ get_or t.bindings c.find-at.result no_binding = search (rules, get_or_read) in
-    name_store ns gs t c.args.spot.node c.args.spot.scope c.args.spot.depth P c.args.level c.find-at.result c.index-b.result.now c.find-at.ensures x
+    name_store ns gs t c.args.spot P c.args.level c.find-at.result c.index-b.result.now c.find-at.ensures x
     c.in-Store.is lt
