@@ -34,7 +34,7 @@ def bodies():
     """Each function: its place, name, parameters, clauses and body."""
     for path in FILES:
         t = text(path)
-        for m in re.finditer(r"^( *)(?:pub(?:\(\w+\))? )?fn (\w+)(.*?)^\1\{\n(.*?)^\1\}|^( *)(?:pub(?:\(\w+\))? )?fn (\w+)([^{;]*?) \{\n(.*?)^\5\}", t, re.M | re.S):
+        for m in re.finditer(r"^( *)(?:pub(?:\(\w+\))? )?fn (\w+)((?:(?! \{\n).)*?)^\1\{\n(.*?)^\1\}|^( *)(?:pub(?:\(\w+\))? )?fn (\w+)([^{;]*?) \{\n(.*?)^\5\}", t, re.M | re.S):
             name, head, body = (m[2], m[3], m[4]) if m[2] else (m[6], m[7], m[8])
             yield f"{path}:{t[:m.start()].count(chr(10)) + 1}", name, head, body
 

@@ -1,12 +1,10 @@
 -- Expressions at places of the table. Assumes nothing.
-use Rattle.std.proofs.Common.{◌≡◌, ℕ, zero, suc, ◌+◌, ◌<◌, ◌≤◌, false, ◌||◌, ◌⊎◌, List, [], ◌∷◌, length, drop, sym, refl, ap, ◌∙◌, inl, inr, arith}
+use Rattle.std.proofs.Common.{◌≡◌, ℕ, zero, suc, ◌+◌, ◌<◌, ◌≤◌, ◌⊎◌, List, [], ◌∷◌, length, drop, sym, refl, ap, ◌∙◌, inl, inr, arith}
 use mathlib.Core.Option.{some, none}
 use Rattle.std.proofs.lemmas.Bool.{cases_lt}
-use Rattle.plan.specs.declared.Type.{«Type» as Shape}
 use Rattle.plan.specs.declared.Node.{Node}
 use Rattle.plan.specs.declared.Row.{Row}
 use Rattle.plan.specs.Trees.{Term, stack, Stack, on_some}
-use Rattle.plan.specs.Written.{listed, same_type}
 use Rattle.plan.specs.Table.{nodes_of, term_at, row_at, node_size, Standing}
 use Rattle.plan.proofs.Ends.{here, past}
 
@@ -44,10 +42,3 @@ kid ns s p a rest e =
     inside : (p < length ns) ⊎ (length ns ≤ p) → p < length ns
     inside (inl h) = h
     inside (inr h) = absurd (let q : a ∷ rest ≡ [] = past ns p (a ∷ rest) h e in let z : ◌≡◌ {A = ℕ} 0 1 = cc in omega arith)
-
-pub listed_empty : (y : Shape) (ts : List Shape) → length ts ≡ 0 → false ≡ listed y ts
-listed_empty y [] h = refl
-listed_empty y (x ∷ ts) h = absurd (omega arith)
-
-pub listed_next : (y x : Shape) (ts rest : List Shape) → ts ≡ x ∷ rest → same_type x y ≡ false → listed y rest ≡ listed y ts
-listed_next y x ts rest e q = ap (λ b. b || listed y rest) (sym q) ∙ ap (listed y) (sym e)

@@ -207,9 +207,7 @@ pub fn binders_of(node: Node) -> u16
 pub fn shape_of(head: u8) -> Option<(NodeKind, Field)>
     ensures { by_number result ≡ shape_of head }
 {
-    let Ok(kind) = NodeKind::try_from(head % 16) else {
-        return None;
-    };
+    let kind = NodeKind::try_from(head % 16).ok()?;
     match (head / 16, kind.rule().field) {
         (0, _) => Some((kind, Field::Absent)),
         (1, Field::Byte) => Some((kind, Field::Byte)),
