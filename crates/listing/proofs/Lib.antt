@@ -1,3 +1,3 @@
 mod Listed
-mod Texts
+mod Lines
 mod Columns

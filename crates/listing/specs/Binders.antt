@@ -1,5 +1,6 @@
 -- The kinds of a plan's binders, by the binders' numbers. Assumes nothing.
-use Rattle.std.specs.Prelude.{ℕ, zero, suc, List, [], ◌∷◌, ◌++◌, length}
+use Rattle.std.specs.Prelude.{ℕ, List, [], ◌∷◌, ◌++◌, length, replicate}
+use Rattle.std.specs.List.{flat_map}
 use Rattle.plan.specs.declared.Node.{Node}
 use Rattle.plan.specs.declared.Node.TheVariants.{Unit as Unit', Number, Name, Let as LetNode, Take as TakeNode, Pair, Split, Left as LeftNode, Right as RightNode, Case, Call, Add, Less}
 use Rattle.plan.specs.Trees.{Leg, Plan, flat}
@@ -23,17 +24,14 @@ bound_by Add = []
 bound_by Less = []
 
 abbrev pub bound_in : List Node → List BinderKind
-bound_in [] = []
-bound_in (o ∷ os) = bound_by o ++ bound_in os
+bound_in os = flat_map bound_by os
 
 abbrev pub params : ℕ → List BinderKind
-params zero = []
-params (suc n) = Param ∷ params n
+params n = replicate n Param
 
 -- A leg's parameters, then what its nodes bind, in their order.
 abbrev pub leg_kinds : List Leg → List BinderKind
-leg_kinds [] = []
-leg_kinds (g ∷ gs) = params (length g.params) ++ (bound_in (flat g.body) ++ leg_kinds gs)
+leg_kinds gs = flat_map (λ g. params (length g.params) ++ bound_in (flat g.body)) gs
 
 abbrev pub binder_kinds : Plan → List BinderKind
 binder_kinds p = leg_kinds p.legs

@@ -1,82 +1,56 @@
 // The kinds of a plan's binders, by their numbers.
-ghost use Rattle.std.specs.Prelude.{◌≡◌, ℕ, ◌+◌, ◌<◌, ◌≤◌, List, [], ◌++◌, length, IfOk, OnOk, slice_index_or};
-ghost use Rattle.plan.specs.Table.{nodes_of, Spells, InOrder};
-ghost use Rattle.plan.specs.Plans.{params_of, legs_in, tree, Sound};
-ghost use Rattle.typer.specs.Walk.{no_leg};
-ghost use Rattle.listing.specs.Binders.{bound_by, bound_in, params, leg_kinds, binder_kinds};
+ghost use Rattle.std.specs.Prelude.{◌≡◌, ◌+◌, ◌<◌, ◌≤◌, ◌++◌, length, IfOk, OnOk, slice_index_or, vec_len};
+ghost use Rattle.plan.specs.Table.{nodes_of, term_at};
+ghost use Rattle.plan.specs.Trees.{flat};
+ghost use Rattle.plan.specs.Plans.{params_of, tree, Sound};
+ghost use Rattle.listing.specs.Binders.{bound_by, bound_in, params, binder_kinds};
 
 use crate::BinderKind;
 use plan::{Leg, Node, Plan, Row};
 use std::alloc::{AllocError, Global};
 
-// Puts what a node binds behind the others.
-fn push_bound(node: Node, kinds: &mut Vec<BinderKind>) -> Result<(), AllocError>
-    ensures { OnOk result (kinds.new.items ≡ kinds.old.items ++ bound_by node) }
+// What a node binds, in the order of the binders' numbers.
+fn bound_by(node: Node) -> &'static [BinderKind]
+    ensures { result.now ≡ bound_by node }
 {
     match node {
-        Node::Let(_) => kinds.push(BinderKind::Let)?,
-        Node::Take(_) => kinds.push(BinderKind::Take)?,
-        Node::Split(_) => {
-            kinds.push(BinderKind::First)?;
-            kinds.push(BinderKind::Second)?;
-        }
-        Node::Case(_) => {
-            kinds.push(BinderKind::Left)?;
-            kinds.push(BinderKind::Right)?;
-        }
-        _ => {}
+        Node::Let(_) => &[BinderKind::Let],
+        Node::Take(_) => &[BinderKind::Take],
+        Node::Split(_) => &[BinderKind::First, BinderKind::Second],
+        Node::Case(_) => &[BinderKind::Left, BinderKind::Right],
+        _ => &[],
     }
-    Ok(())
 }
 
-// Puts a leg's parameters behind the others.
-fn push_params(leg: Leg, kinds: &mut Vec<BinderKind>) -> Result<(), AllocError>
-    ensures { OnOk result (leg.count ≤ 8 → kinds.new.items ≡ kinds.old.items ++ params (length (params_of leg))) }
+// Where the body of the k-th leg ends: where the next leg's begins, or with the table.
+fn body_end(plan: &Plan, k: usize) -> usize
+    requires { k < vec_len plan.now.legs }
+    ensures next { (d : Leg) → k + 1 < vec_len plan.now.legs → result ≡ (slice_index_or plan.now.legs.items (k + 1) d).first }
+    ensures last { vec_len plan.now.legs ≤ k + 1 → result ≡ vec_len plan.now.nodes }
 {
-    for _ in 0..leg.count {
+    plan.legs
+        .get(k + 1)
+        .map_or(plan.nodes.len(), |next| next.first as usize)
+}
+
+// The nodes of the k-th leg's body.
+fn body(plan: &Plan, k: usize) -> &[Row]
+    requires { k < vec_len plan.now.legs }
+    ensures { (d : Leg) → Sound plan.now → nodes_of result.now ≡ flat (term_at plan.now.nodes.items (slice_index_or plan.now.legs.items k d).first) }
+{
+    let start = plan.legs[k].first as usize;
+    plan.nodes.get(start..body_end(plan, k)).unwrap_or(&[])
+}
+
+// Puts a leg's parameters, and then what the nodes of its body bind, behind the others.
+fn push_leg(leg: &Leg, body: &[Row], kinds: &mut Vec<BinderKind>) -> Result<(), AllocError>
+    ensures { OnOk result (kinds.new.items ≡ kinds.old.items ++ (params (length (params_of leg.now)) ++ bound_in (nodes_of body.now))) }
+{
+    for _ in leg.params.as_slice() {
         kinds.push(BinderKind::Param)?;
     }
-    Ok(())
-}
-
-// Puts what the nodes bind behind the others.
-fn push_all(rows: &[Row], kinds: &mut Vec<BinderKind>) -> Result<(), AllocError>
-    ensures { OnOk result (kinds.new.items ≡ kinds.old.items ++ bound_in (nodes_of rows.now)) }
-{
-    for i in 0..rows.len() {
-        push_bound(rows[i].node, kinds)?;
-    }
-    Ok(())
-}
-
-// Where the body of the k-th leg ends: where the next one begins, or the table ends.
-fn body_end(legs: &[Leg], nodes: &[Row], k: usize, at: usize) -> usize
-    requires leg { k < length legs.now }
-    requires place { at ≤ length nodes.now }
-    ensures low { at ≤ result }
-    ensures high { result ≤ length nodes.now }
-    ensures next { k + 1 < length legs.now → at ≤ (slice_index_or legs.now (k + 1) no_leg).first → (slice_index_or legs.now (k + 1) no_leg).first ≤ length nodes.now → result ≡ (slice_index_or legs.now (k + 1) no_leg).first }
-    ensures last { length legs.now ≤ k + 1 → result ≡ length nodes.now }
-{
-    if k + 1 < legs.len() {
-        let next = legs[k + 1].first as usize;
-        if at <= next && next <= nodes.len() {
-            return next;
-        }
-    }
-    nodes.len()
-}
-
-fn push_legs(legs: &[Leg], nodes: &[Row], kinds: &mut Vec<BinderKind>) -> Result<(), AllocError>
-    requires { kinds.old.items ≡ [] }
-    ensures { OnOk result (Spells nodes.now → InOrder 0 nodes.now legs.now → kinds.new.items ≡ leg_kinds (legs_in nodes.now legs.now)) }
-{
-    let mut at = 0;
-    for k in 0..legs.len() {
-        push_params(legs[k], kinds)?;
-        let end = body_end(legs, nodes, k, at);
-        push_all(&nodes[at..end], kinds)?;
-        at = end;
+    for row in body {
+        kinds.extend_from_slice(bound_by(row.node))?;
     }
     Ok(())
 }
@@ -86,6 +60,8 @@ pub fn binder_kinds(heap: Global, plan: &Plan) -> Result<Vec<BinderKind>, AllocE
     ensures { IfOk result (λ kinds. Sound plan.now → kinds.items ≡ binder_kinds (tree plan.now)) }
 {
     let mut kinds = Vec::new(heap);
-    push_legs(plan.legs.as_slice(), plan.nodes.as_slice(), &mut kinds)?;
+    for (k, leg) in plan.legs.iter().enumerate() {
+        push_leg(leg, body(plan, k), &mut kinds)?;
+    }
     Ok(kinds)
 }

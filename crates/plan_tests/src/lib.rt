@@ -4,6 +4,7 @@
 #[cfg(test)]
 mod tests {
     use listing::table::make::list_plan;
+    use refusal::Refusal;
     use std::alloc::Global;
     use std::process::Abort;
     use std::test::Fail;
@@ -19,28 +20,24 @@ mod tests {
         number: u8,
         place: usize,
     ) -> Result<(), Fail> {
-        match read_typed(heap, bytes) {
-            Ok(_) => Err(Fail::new("accepted")),
-            Err(fault) => {
-                let told = fault.refusal();
-                assert_eq!(rt; told.number, number);
-                assert_eq!(rt; told.place, place);
-                Ok(())
-            }
-        }
+        let Err(fault) = read_typed(heap, bytes) else {
+            return Err(Fail::new("accepted"));
+        };
+        let told = Refusal::from(fault);
+        assert_eq!(rt; told.number, number);
+        assert_eq!(rt; told.place, place);
+        Ok(())
     }
 
     #[test]
     fn worked_plan(rt: HostRuntime) -> Result<(), Fail> {
-        match read_typed(rt.alloc(), &DOUBLE) {
-            Ok(typed) => {
-                assert_eq!(rt; typed.plan.legs.len(), 1);
-                assert_eq!(rt; typed.plan.nodes.len(), 5);
-                assert_eq!(rt; typed.levels.len(), 5);
-                Ok(())
-            }
-            Err(_) => Err(Fail::new("refused")),
-        }
+        let Ok(typed) = read_typed(rt.alloc(), &DOUBLE) else {
+            return Err(Fail::new("refused"));
+        };
+        assert_eq!(rt; typed.plan.legs.len(), 1);
+        assert_eq!(rt; typed.plan.nodes.len(), 5);
+        assert_eq!(rt; typed.levels.len(), 5);
+        Ok(())
     }
 
     #[test]
@@ -60,15 +57,13 @@ mod tests {
     #[test]
     fn listing_of_a_damaged_plan(rt: HostRuntime) -> Result<(), Fail> {
         let bytes = [4, 1, 1, 1, 1, 0, 5, 3, 2, 0x0b, 0x12, 1, 0x12, 2];
-        match list_plan(rt.alloc(), &bytes) {
-            Ok(_) => Err(Fail::new("accepted")),
-            Err(fault) => {
-                let told = fault.refusal();
-                assert_eq!(rt; told.number, 7);
-                assert_eq!(rt; told.place, 4);
-                Ok(())
-            }
-        }
+        let Err(fault) = list_plan(rt.alloc(), &bytes) else {
+            return Err(Fail::new("accepted"));
+        };
+        let told = Refusal::from(fault);
+        assert_eq!(rt; told.number, 7);
+        assert_eq!(rt; told.place, 4);
+        Ok(())
     }
 
     #[test]

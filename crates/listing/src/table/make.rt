@@ -1,12 +1,13 @@
 // The listing of a plan, from its bytes.
-ghost use Rattle.std.specs.Prelude.{◌≡◌, ℕ, IfOk, vec_len, replicate};
-ghost use Rattle.listing.specs.Listings.{ColumnAnswer, ListingAnswer};
+ghost use Rattle.std.specs.Prelude.{◌≡◌, IfOk, map};
+ghost use Rattle.std.specs.List.{enumerate_from, zip};
+ghost use Rattle.listing.specs.Listings.{ColumnAnswer, ListingAnswer, line_of};
 
-use super::Listing;
+use super::{Line, Listing};
+use crate::BinderKind;
 use crate::binders::binder_kinds;
 use grader::faults::GradeFault;
 use grader::grades::{WORK_PLACES, grades};
-use plan::faults::PlanFault;
 use scales::scale::Scale;
 use scales::set::Set;
 use scales::span::Span;
@@ -14,30 +15,40 @@ use scales::tally::Tally;
 use std::alloc::{AllocError, Global};
 use typer::typed::read_typed;
 
-// A list of so many places, each with no use.
-fn places<S: Scale>(heap: Global, count: usize) -> Result<Vec<S>, AllocError>
-    ensures long { IfOk result (λ list. vec_len list ≡ count) }
-    ensures unused { IfOk result (λ list. list.items ≡ replicate count S.ops.zero) }
-{
-    let mut list: Vec<S> = Vec::with_capacity(heap, count)?;
-    for _ in 0..count {
-        list.push(S::zero())?;
-    }
-    Ok(list)
-}
-
 // The least grades of a plan with so many binders, under one scale.
 fn column<S: Scale>(heap: Global, bytes: &[u8], count: usize) -> Result<Vec<S>, GradeFault>
     ensures { ColumnAnswer S.ops bytes.now count result }
 {
-    let Ok(mut work) = places::<S>(heap, WORK_PLACES) else {
-        return Err(GradeFault::Plan(PlanFault::Memory));
-    };
-    let Ok(mut answers) = places::<S>(heap, count) else {
-        return Err(GradeFault::Plan(PlanFault::Memory));
-    };
-    let _ = grades(heap, bytes, work.as_mut_slice(), answers.as_mut_slice())?;
+    let mut work = vec![in heap; S::zero(); WORK_PLACES]?;
+    let mut answers = vec![in heap; S::zero(); count]?;
+    grades(heap, bytes, work.as_mut_slice(), answers.as_mut_slice())?;
     Ok(answers)
+}
+
+// The lines of binders that come in the order of their numbers.
+fn lines_of(
+    heap: Global,
+    kinds: &[BinderKind],
+    tallies: &[Tally],
+    spans: &[Span],
+    sets: &[Set],
+) -> Result<Vec<Line>, AllocError>
+    ensures { IfOk result (λ v. v.items ≡ map line_of (enumerate_from 0 (zip (zip (zip kinds.now tallies.now) spans.now) sets.now))) }
+{
+    kinds
+        .iter()
+        .zip(tallies)
+        .zip(spans)
+        .zip(sets)
+        .enumerate()
+        .map(|(k, (((kind, tally), span), set))| Line {
+            binder: k,
+            kind: *kind,
+            tally: *tally,
+            span: *span,
+            set: *set,
+        })
+        .collect(heap)
 }
 
 // The plan's binders with their kinds and their least grades, or why the bytes give no plan.
@@ -45,16 +56,10 @@ pub fn list_plan(heap: Global, bytes: &[u8]) -> Result<Listing, GradeFault>
     ensures { ListingAnswer bytes.now result }
 {
     let typed = read_typed(heap, bytes)?;
-    let Ok(kinds) = binder_kinds(heap, &typed.plan) else {
-        return Err(GradeFault::Plan(PlanFault::Memory));
-    };
+    let kinds = binder_kinds(heap, &typed.plan)?;
     let tallies = column::<Tally>(heap, bytes, kinds.len())?;
     let spans = column::<Span>(heap, bytes, kinds.len())?;
     let sets = column::<Set>(heap, bytes, kinds.len())?;
-    Ok(Listing {
-        kinds,
-        tallies,
-        spans,
-        sets,
-    })
+    let lines = lines_of(heap, &kinds, &tallies, &spans, &sets)?;
+    Ok(Listing { lines })
 }
