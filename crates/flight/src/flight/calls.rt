@@ -120,8 +120,11 @@ impl Flight {
     pub fn count_lookups(&self, counts: &mut [u16])
         ensures { Written (lookups_of self.now) counts.old counts.new 8 }
     {
-        for store in 0..counts.len().min(usize::from(STORES)) {
-            counts[store] = self.lookups(store as u8);
+        for (store, count) in counts.iter_mut().enumerate() {
+            if store == usize::from(STORES) {
+                break;
+            }
+            *count = self.lookups(store as u8);
         }
     }
 }

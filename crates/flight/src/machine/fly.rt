@@ -59,7 +59,7 @@ impl Machine {
     {
         match control {
             Control::Eval(_) => self.begun - from < n,
-            Control::Return(_) => 0 < self.frames.len(),
+            Control::Return(_) => !self.frames.is_empty(),
             Control::Draw(_, _) => true,
             Control::Over(_) => false,
         }
