@@ -70,6 +70,7 @@ impl<'a, G: Scale> Contexts<'a, G> {
     pub fn push_none(&mut self, width: usize)
         requires { length self.old.held + width ≤ room self.old }
         ensures held { self.new.held ≡ self.old.held ++ row_zero G.ops width }
+        ensures used { length self.new.held ≡ length self.old.held + width }
         ensures room { room self.new ≡ room self.old }
     {
         let at = self.used;
@@ -82,6 +83,7 @@ impl<'a, G: Scale> Contexts<'a, G> {
         requires room { length self.old.held + width ≤ room self.old }
         requires level { level < width }
         ensures held { self.new.held ≡ self.old.held ++ from_0 width (one_of G.ops level) }
+        ensures used { length self.new.held ≡ length self.old.held + width }
         ensures room { room self.new ≡ room self.old }
     {
         let at = self.used;
