@@ -3,6 +3,7 @@ ghost use Rattle.std.specs.Prelude.{◌≡◌};
 ghost use Rattle.scales.specs.Laws.{Laws, Ops};
 
 // The most uses that a grade allows: a count, or no bound. Counts lie by size, no bound above them all.
+// Not an `Option`: its `None` lies below every `Some`, so the derived order would be turned.
 #[derive(Clone, Copy, PartialEq, Eq, PartialOrd, Ord, Debug)]
 pub enum Ceiling {
     Count(u16),

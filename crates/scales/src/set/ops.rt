@@ -102,6 +102,7 @@ impl Scale for Set {
         Set { mask: 2 }
     }
 
+    // A sum and a product are each their mask in a set: one function over both would say no less.
     #[tactic(auto, using(crate::specs::Masks::sum_pos))]
     fn add(self, other: Set) -> Set {
         Set {
