@@ -86,7 +86,8 @@ impl<'a> Input<'a> {
         }
     }
 
-    // A count of nodes in two bytes, for a plan that has `used` before them.
+    // A count of nodes in two bytes, for a plan that has `used` before them. Not one function with `count`:
+    // other bytes and another bound would make it longer than the two.
     pub(crate) fn node_count(&mut self, used: usize) -> Result<usize, ReadFault>
         requires few { used ≤ 256 }
         ensures read { Reads (λ all. read_count all used) self.old self.new result }

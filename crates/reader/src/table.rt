@@ -21,6 +21,7 @@ fn skip(nodes: &[Row], at: usize, count: usize) -> Option<usize>
 }
 
 // Writes the ends of the expressions from `first` on; whether these are exactly one.
+// By index, since a node's end is looked up among all the rows behind it.
 pub(crate) fn close(nodes: &mut [Row], first: usize) -> bool
     requires within { first ≤ length nodes.old }
     requires few { length nodes.old ≤ 256 }
