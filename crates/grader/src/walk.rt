@@ -21,7 +21,8 @@ struct Progress<'a, S> {
     next: usize,
 }
 
-// What a walk reads: the nodes, and the legs below the one that is graded.
+// What a walk reads: the nodes, and the legs below the one that is graded. That the nodes spell trees is asked of each
+// method: a ghost field has to be a proposition, and an equation of trees is not seen to be one.
 #[derive(Clone, Copy)]
 struct Walk<'a> {
     lower: &'a [Leg],

@@ -9,7 +9,7 @@ use crate::world::World;
 use arrayvec::ArrayVec;
 use plan::faults::TypeFault;
 use plan::limits::MAX_LEVELS;
-use plan::{LegId, Node, Type, TypeId};
+use plan::{LegId, Level, Node, Type, TypeId};
 
 // Unit, number, and what a comparison gives.
 pub(crate) const UNIT: TypeId = TypeId { index: 0 };
@@ -26,6 +26,13 @@ fn kid(kids: &[TypeId], k: usize) -> TypeId
     ensures { result ≡ kid_at kids.now k }
 {
     kids.get(k).copied().unwrap_or(UNIT)
+}
+
+// The type of a level, if it is in scope.
+fn level_type(scope: &[TypeId], level: Level) -> Option<TypeId>
+    ensures { result ≡ slice_get scope.now level.index }
+{
+    scope.get(usize::from(level.index)).copied()
 }
 
 // The first place of a type in the table.
@@ -71,10 +78,8 @@ impl World<'_> {
     fn number_of(&self, at: usize, y: Type) -> Result<TypeId, TypeFault>
         ensures { result ≡ there_at at (number_of y self.now.plan.now.types.items) }
     {
-        match place_of(self.plan.types.as_slice(), y) {
-            Some(index) => Ok(TypeId { index: index as u8 }),
-            None => Err(TypeFault::Type(at)),
-        }
+        let index = place_of(self.plan.types.as_slice(), y).ok_or(TypeFault::Type(at))?;
+        Ok(TypeId { index: index as u8 })
     }
 
     // The type that a number stands for, if it does.
@@ -144,10 +149,7 @@ impl World<'_> {
         match node {
             Node::Unit => Ok(UNIT),
             Node::Number(_) => Ok(NUMBER),
-            Node::Name(level) => match scope.get(usize::from(level.index)) {
-                Some(y) => Ok(*y),
-                None => Err(TypeFault::Name(at)),
-            },
+            Node::Name(level) => level_type(scope, level).ok_or(TypeFault::Name(at)),
             Node::Let(_) | Node::Take(_) | Node::Split(_) => Ok(kid(kids, 1)),
             Node::Pair => self.number_of(at, Type::Pair(kid(kids, 0), kid(kids, 1))),
             Node::Left(y) => {
