@@ -105,8 +105,8 @@ impl<'a, G: Scale> Contexts<'a, G> {
         self.used -= top;
     }
 
-    // Takes the topmost context off and joins it to the one below, which is as wide. A call of its own beside
-    // `add_top`, since a sum may be cut to a smaller width and a join may not.
+    // Takes the topmost context off and joins it to the one below, which is as wide. What it shares with `add_top`
+    // is `merge_rest`: the three lines left would be no shorter as one.
     pub fn join_top(&mut self, width: usize)
         requires { width + width ≤ length self.old.held }
         ensures held { (h a b : List G) → length a ≡ width → length b ≡ width → self.old.held ≡ h ++ (a ++ b) → self.new.held ≡ h ++ row_join G.ops a b }

@@ -22,7 +22,8 @@ struct Progress<'a, S> {
 }
 
 // What a walk reads: the nodes, and the legs below the one that is graded. That the nodes spell trees is asked of each
-// method: a ghost field has to be a proposition, and an equation of trees is not seen to be one.
+// method: as a ghost field it would have to be held under a truncation, since an equation of trees is not seen to be a
+// proposition, and be taken out again in each.
 #[derive(Clone, Copy)]
 struct Walk<'a> {
     lower: &'a [Leg],

@@ -1,7 +1,7 @@
 // A plan's binders, listed as the programs print them.
 #![tactic(auto)]
 
-ghost use Rattle.std.specs.Prelude.{Some};
+ghost use Rattle.std.specs.Prelude.{◌≡◌, Some};
 ghost use Rattle.listing.specs.Names.{kind_name};
 
 use std::fmt;
@@ -22,11 +22,12 @@ pub enum BinderKind {
     Right,
 }
 
-impl fmt::Display for BinderKind {
-    ghost output = { λ k. Some (kind_name k) };
-
-    fn fmt<W: fmt::Write>(&self, f: &mut fmt::Formatter<W>) -> fmt::Result {
-        f.write_str(match self {
+impl BinderKind {
+    // The kind as it is printed.
+    pub fn name(self) -> &'static str
+        ensures { result.now ≡ kind_name self }
+    {
+        match self {
             BinderKind::Param => "param",
             BinderKind::Let => "let",
             BinderKind::Take => "take",
@@ -34,6 +35,14 @@ impl fmt::Display for BinderKind {
             BinderKind::Second => "second",
             BinderKind::Left => "left",
             BinderKind::Right => "right",
-        })
+        }
+    }
+}
+
+impl fmt::Display for BinderKind {
+    ghost output = { λ k. Some (kind_name k) };
+
+    fn fmt<W: fmt::Write>(&self, f: &mut fmt::Formatter<W>) -> fmt::Result {
+        f.write_str(self.name())
     }
 }

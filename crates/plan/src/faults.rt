@@ -57,7 +57,7 @@ impl From<AllocError> for PlanFault {
     }
 }
 
-// Each fault by its number, layer and place.
+// Each fault by its number, layer and place. Each enum is matched by itself, so that a new case has to be given its number.
 impl From<ReadFault> for Refusal {
     ghost from_gives = { λ e r. r ≡ refused_by_reader e };
 

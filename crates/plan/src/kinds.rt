@@ -12,7 +12,7 @@ pub enum Field {
     Number,
 }
 
-// How many kids a node has. Not an `Option`: a call's count is no missing one, its leg says it.
+// How many kids a node has. Not an `Option`: a call's count is not missing, the node itself has it.
 #[derive(Clone, Copy, PartialEq, Eq, Debug, Drop)]
 pub enum Kids {
     Fixed(u8),

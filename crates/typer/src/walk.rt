@@ -17,7 +17,8 @@ use plan::kinds::kids_of;
 use plan::limits::MAX_PARAMS;
 use plan::{Leg, Plan, TypeId};
 
-// The scope of a leg's body: its parameters, the last one innermost.
+// The scope of a leg's body: its parameters, the last one innermost. Pushed one by one, since there is room for each
+// and what extends by a slice answers an error.
 fn leg_scope(leg: &Leg) -> Scope
     ensures { result.items ≡ params_of leg.now }
 {

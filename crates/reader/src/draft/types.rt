@@ -10,7 +10,7 @@ use plan::faults::ReadFault;
 use plan::limits::MAX_ENTRIES;
 use plan::{Type, TypeId};
 
-// The type that a tag makes of two.
+// The type that a tag makes of two. The tag is a byte of the format, looked at here alone.
 fn entry_of(tag: u8, a: TypeId, b: TypeId) -> Type
     ensures { result ≡ entry_of tag a b }
 {
@@ -59,7 +59,7 @@ impl Draft {
         Ok(())
     }
 
-    // The map of the fields, and the table of types if there is one.
+    // The map of the fields, a byte of the format with two forms, and the table of types if there is one.
     pub(crate) fn read_front(&mut self, input: &mut Input<'_>) -> Result<(), ReadFault>
         requires { self.old.types.items ≡ [] }
         ensures { TypesRead read_front self.old self.new input.old input.new result }

@@ -102,7 +102,7 @@ impl Scale for Set {
         Set { mask: 2 }
     }
 
-    // A sum and a product are each their mask in a set: one function over both would say no less.
+    // What a sum and a product share is `union_after`: the literal left would be no shorter as one function.
     #[tactic(auto, using(crate::specs::Masks::sum_pos))]
     fn add(self, other: Set) -> Set {
         Set {
