@@ -7,7 +7,7 @@ use Rattle.flight.specs.Nodes.{Runner, kind_at, kid2, kid3, after, second, both}
 use Rattle.flight.specs.Tables.{Tables, the_spot, no_binding, size_at, new_binding, opened, valued}
 use Rattle.flight.specs.Means.{value_at, part_of, scope_at, resumed, unwind, state_of}
 use Rattle.flight.specs.Grow.{grow}
-use Rattle.flight.specs.Sound.{Under, PartOk, Sound, Poised, Leads, bind_act, frame_act, Binds}
+use Rattle.flight.specs.Sound.{Under, PartOk, IsNothing, Poised, Leads, bind_act, frame_act, Binds}
 use Rattle.plan.specs.declared.Node.{Node}
 use Rattle.plan.specs.declared.Binder.{Binder}
 use Rattle.plan.specs.declared.TypeId.{TypeId}
@@ -62,15 +62,15 @@ either_rest vs (Both a b) f g h k = refl
 either_rest vs (InLeft a) f g h k = absurd (h a refl)
 either_rest vs (InRight a) f g h k = absurd (k a refl)
 
-module _ (t : Tables) (ns : List Row) (lv : ℕ → ℕ) (S : Sound ns lv t) where
+module _ (t : Tables) (values : (i : ℕ) → i < length t.values → PartOk i (get_or t.values i Nothing)) (nothing : IsNothing (get_or t.values 0 Nothing)) where
   pub value_is : (v : ℕ) (p : Part) → v < length t.values → p ≡ get_or t.values v Nothing → value_at t.values v ≡ part_of (grow part_of [] t.values) p
-  value_is v p lt e = value_here t.values v lt (S.values v lt) ∙ ap (part_of (grow part_of [] t.values)) (sym e)
+  value_is v p lt e = value_here t.values v lt (values v lt) ∙ ap (part_of (grow part_of [] t.values)) (sym e)
 
   pub part_there : (v : ℕ) (p : Part) → v < length t.values → p ≡ get_or t.values v Nothing → PartOk v p
-  part_there v p lt e = subst (PartOk v) (sym e) (S.values v lt)
+  part_there v p lt e = subst (PartOk v) (sym e) (values v lt)
 
-  pub unit_is : value_at t.values 0 ≡ byname.v_unit
-  unit_is = let th = S.three in value_is 0 Nothing (omega arith) (sym (nothing_is (get_or t.values 0 Nothing) S.nothing))
+  pub unit_is : 0 < length t.values → value_at t.values 0 ≡ byname.v_unit
+  unit_is some = value_is 0 Nothing some (sym (nothing_is (get_or t.values 0 Nothing) nothing))
 
   pub number_num : (v : ℕ) (p : Part) (x : ℕ) → v < length t.values → p ≡ get_or t.values v Nothing → p ≡ Num x → x ≡ byname.as_number (value_at t.values v)
   number_num v p x lt e i = sym (ap byname.as_number (value_is v p lt e ∙ ap (part_of (grow part_of [] t.values)) i))
@@ -91,8 +91,8 @@ module _ (t : Tables) (ns : List Row) (lv : ℕ → ℕ) (S : Sound ns lv t) whe
       record {
         one = omega arith;
         two = omega arith;
-        first = unit_is ∙ first_rest (grow part_of [] t.values) p h ∙ ap byname.first_of (sym (value_is v p lt e));
-        second = unit_is ∙ second_rest (grow part_of [] t.values) p h ∙ ap byname.second_of (sym (value_is v p lt e));
+        first = unit_is (omega arith) ∙ first_rest (grow part_of [] t.values) p h ∙ ap byname.first_of (sym (value_is v p lt e));
+        second = unit_is (omega arith) ∙ second_rest (grow part_of [] t.values) p h ∙ ap byname.second_of (sym (value_is v p lt e));
       }
 
 module _ (ns : List Row) (gs : List Leg) (t : Tables) (spot : Spot) (P : Poised ns gs t spot) where
@@ -123,10 +123,10 @@ module _ (ns : List Row) (gs : List Leg) (t : Tables) (spot : Spot) (P : Poised 
   join_add u v x e = value_leads ns gs t spot P (join_act t Add u v) (Num x) (omega arith) (λ E L st. ap (λ n. byname.value (byname.v_number n) st) e)
 
   left_is : value_at V 1 ≡ byname.v_left byname.v_unit
-  left_is = let th = P.sound.three in value_is t ns P.lv P.sound 1 (InLeft 0) (omega arith) (sym (left_part (get_or V 1 Nothing) P.sound.yes)) ∙ ap byname.v_left (unit_is t ns P.lv P.sound)
+  left_is = let th = P.sound.three in value_is t P.sound.values P.sound.nothing 1 (InLeft 0) (omega arith) (sym (left_part (get_or V 1 Nothing) P.sound.yes)) ∙ ap byname.v_left (unit_is t P.sound.values P.sound.nothing (omega arith))
 
   right_is : value_at V 2 ≡ byname.v_right byname.v_unit
-  right_is = let th = P.sound.three in value_is t ns P.lv P.sound 2 (InRight 0) (omega arith) (sym (right_part (get_or V 2 Nothing) P.sound.not)) ∙ ap byname.v_right (unit_is t ns P.lv P.sound)
+  right_is = let th = P.sound.three in value_is t P.sound.values P.sound.nothing 2 (InRight 0) (omega arith) (sym (right_part (get_or V 2 Nothing) P.sound.not)) ∙ ap byname.v_right (unit_is t P.sound.values P.sound.nothing (omega arith))
 
   pub join_less : (u v : ℕ) → byname.as_number (value_at V u) < byname.as_number (value_at V v) → Leads ns gs t (join_act t Less u v) t (Return 1)
   join_less u v lt =
@@ -250,24 +250,24 @@ module _ (ns : List Row) (gs : List Leg) (t : Tables) (spot : Spot) (P : Poised 
     pub case_left : (p : Part) (u : ℕ) (t' : Tables) (c' : Control) → p ≡ get_or V v Nothing → p ≡ InLeft u
         → (Binds ns gs t (Kept u) (kid2 ns q) spot → Leads ns gs t (bind_act t k (Kept u) (kid2 ns q) spot) t' c') → Leads ns gs t (case_act ns t k v spot) t' c'
     case_left p u t' c' x i h =
-        let low : u < v = subst (PartOk v) i (part_there t ns P.lv P.sound v p lt x) in
+        let low : u < v = subst (PartOk v) i (part_there t P.sound.values P.sound.nothing v p lt x) in
         leads_as ns gs t (bind_act t k (Kept u) (kid2 ns q) spot) (case_act ns t k v spot) t' c'
-        (λ E L st. ap (λ z. byname.either_of z (on_left E L st) (on_right E L st)) (sym (value_is t ns P.lv P.sound v p lt x ∙ ap (part_of (grow part_of [] V)) i))) (h (binds_left u (omega arith)))
+        (λ E L st. ap (λ z. byname.either_of z (on_left E L st) (on_right E L st)) (sym (value_is t P.sound.values P.sound.nothing v p lt x ∙ ap (part_of (grow part_of [] V)) i))) (h (binds_left u (omega arith)))
 
     pub case_right : (p : Part) (u : ℕ) (t' : Tables) (c' : Control) → p ≡ get_or V v Nothing → p ≡ InRight u
         → (Binds ns gs t (Kept u) (kid3 ns q) spot → Leads ns gs t (bind_act t (k + 1) (Kept u) (kid3 ns q) spot) t' c') → Leads ns gs t (case_act ns t k v spot) t' c'
     case_right p u t' c' x i h =
-        let low : u < v = subst (PartOk v) i (part_there t ns P.lv P.sound v p lt x) in
+        let low : u < v = subst (PartOk v) i (part_there t P.sound.values P.sound.nothing v p lt x) in
         leads_as ns gs t (bind_act t (k + 1) (Kept u) (kid3 ns q) spot) (case_act ns t k v spot) t' c'
-        (λ E L st. ap (λ z. byname.either_of z (on_left E L st) (on_right E L st)) (sym (value_is t ns P.lv P.sound v p lt x ∙ ap (part_of (grow part_of [] V)) i))) (h (binds_right u (omega arith)))
+        (λ E L st. ap (λ z. byname.either_of z (on_left E L st) (on_right E L st)) (sym (value_is t P.sound.values P.sound.nothing v p lt x ∙ ap (part_of (grow part_of [] V)) i))) (h (binds_right u (omega arith)))
 
     pub case_rest : (p : Part) (t' : Tables) (c' : Control) → p ≡ get_or V v Nothing → ((x : ℕ) → p ≡ InLeft x → ⊥) → ((x : ℕ) → p ≡ InRight x → ⊥)
         → (Binds ns gs t (Kept 0) (kid2 ns q) spot → Leads ns gs t (bind_act t k (Kept 0) (kid2 ns q) spot) t' c') → Leads ns gs t (case_act ns t k v spot) t' c'
     case_rest p t' c' x a b h =
         leads_as ns gs t (bind_act t k (Kept 0) (kid2 ns q) spot) (case_act ns t k v spot) t' c'
-        (λ E L st. ap (on_left E L st) (unit_is t ns P.lv P.sound)
+        (λ E L st. ap (on_left E L st) (unit_is t P.sound.values P.sound.nothing (omega arith))
         ∙ either_rest (grow part_of [] V) p (on_left E L st) (on_right E L st) a b
-        ∙ ap (λ z. byname.either_of z (on_left E L st) (on_right E L st)) (sym (value_is t ns P.lv P.sound v p lt x))) (h (binds_left 0 (omega arith)))
+        ∙ ap (λ z. byname.either_of z (on_left E L st) (on_right E L st)) (sym (value_is t P.sound.values P.sound.nothing v p lt x))) (h (binds_left 0 (omega arith)))
 
   -- after the first kid
   pub after_as : (k : Node) (v : ℕ) → kind_at ns q ≡ k → (t' : Tables) (c' : Control)

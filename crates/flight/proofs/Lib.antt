@@ -1,6 +1,7 @@
 pub mod Grow
 pub mod Decode
 pub mod Keeps
+pub mod Links
 pub mod Gates
 pub mod Leads
 pub mod Find

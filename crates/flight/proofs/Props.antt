@@ -6,7 +6,7 @@ use native.Mathlib.Nat.{ℕ_set}
 use native.Mathlib.Bridge.{le_prop}
 use Rattle.flight.specs.Nodes.{kind_at, end_at, level_of}
 use Rattle.flight.specs.Tables.{Tables, size_at, no_binding, no_frame}
-use Rattle.flight.specs.Sound.{Under, Args, Laid, LaidNode, WhatOk, BindingOk, PartOk, FirstOk, FrameOk, Sound, ControlOk, Ready, Fine, IsNothing, IsLeft, IsRight}
+use Rattle.flight.specs.Sound.{Under, Args, Laid, LaidNode, WhatOk, BindingOk, FirstOk, FrameOk, Sound, ControlOk, Ready, Fine, IsLeft, IsRight}
 use Rattle.plan.specs.declared.Node.{Node}
 use Rattle.plan.specs.declared.Node.TheVariants.{Unit as k_unit, Number, Name, Let, Take, Pair, Split, Left, Right, Case, Call, Add, Less}
 use Rattle.plan.specs.declared.Leg.{Leg}
@@ -21,6 +21,7 @@ use Rattle.flight.specs.declared.machine.Control.TheVariants.{Eval, Return, Draw
 use Rattle.plan.specs.declared.Row.{Row}
 use Rattle.plan.specs.Plans.{params_of}
 use Rattle.flight.specs.Spelled.{Main, MainPlain}
+use Rattle.flight.proofs.Links.{part_prop, nothing_prop}
 
 module _ (ns : List Row) (gs : List Leg) (lv : ℕ → ℕ) where
   under_prop : (q n : ℕ) → IsProp (Under ns lv q n)
@@ -62,13 +63,6 @@ module _ (ns : List Row) (gs : List Leg) (lv : ℕ → ℕ) where
         what = what_prop bs vs i b.what u.what v.what j;
       }
 
-  part_prop : (i : ℕ) (p : Part) → IsProp (PartOk i p)
-  part_prop i Nothing = Unit-prop
-  part_prop i (Num n) = le_prop
-  part_prop i (Both u v) = ×_prop le_prop le_prop
-  part_prop i (InLeft u) = le_prop
-  part_prop i (InRight u) = le_prop
-
   first_prop : (vs : ℕ) (p : Option ℕ) → IsProp (FirstOk vs p)
   first_prop vs None = Unit-prop
   first_prop vs (Some u) = le_prop
@@ -82,13 +76,6 @@ module _ (ns : List Row) (gs : List Leg) (lv : ℕ → ℕ) where
         least = le_prop u.least v.least j;
         first = first_prop vs f.first u.first v.first j;
       }
-
-  nothing_prop : (p : Part) → IsProp (IsNothing p)
-  nothing_prop Nothing = Unit-prop
-  nothing_prop (Num n) = ⊥_prop
-  nothing_prop (Both u v) = ⊥_prop
-  nothing_prop (InLeft u) = ⊥_prop
-  nothing_prop (InRight u) = ⊥_prop
 
   left_prop : (p : Part) → IsProp (IsLeft p)
   left_prop Nothing = ⊥_prop

@@ -7,7 +7,7 @@ use Rattle.evaluation.specs.Flight as byname
 use Rattle.flight.specs.Nodes.{Runner, Runs, no_leg, kind_at, end_at, kid2, kid3, node_does, bind_kids}
 use Rattle.flight.specs.Tables.{Tables, the_spot, opened, new_binding, size_at, no_binding}
 use Rattle.flight.specs.Means.{scope_at, entry_of}
-use Rattle.flight.specs.Sound.{Ready, PartOk}
+use Rattle.flight.specs.Sound.{Ready}
 use Rattle.flight.specs.Spelled.{trees, below, SameLeg, from_leg, Spells, Spelled, runner, Main, blank, Storing, Begun}
 use Rattle.plan.specs.Table.{term_at}
 use Rattle.plan.specs.Plans.{leg_in, params_of}
@@ -21,6 +21,7 @@ use Rattle.flight.specs.Tables.{Made}
 use Rattle.flight.specs.declared.machine.Control.TheVariants.{Eval}
 use Rattle.flight.specs.Means.{unwind}
 use Rattle.flight.proofs.Keeps.{sound_opened}
+use Rattle.flight.proofs.Links.{parts_blank}
 use Rattle.flight.proofs.Decode.{scope_new}
 
 legs_length : (L : byname.Limits) (ls : List plan.Leg) → length (byname.meanings L ls) ≡ length ls
@@ -130,19 +131,13 @@ runs ns gs S n i ρ d s lt = does ns gs n (kind_at ns i) i ρ d s (S i lt)
 -- a flight that begins
 
 module _ (ns : List Row) (gs : List Leg) (g : Leg) where
-  parts_ok : (i : ℕ) → i < 3 → PartOk i (get_or blank.values i Rattle.flight.specs.declared.machine.Part.TheVariants.Nothing)
-  parts_ok zero lt = tt
-  parts_ok (suc zero) lt = omega arith
-  parts_ok (suc (suc zero)) lt = omega arith
-  parts_ok (suc (suc (suc i))) lt = absurd (omega arith)
-
   pub store_start : Main ns gs g → Storing ns gs g blank 0
   store_start M =
       record {
         main = M;
         sound = record {
           bindings = λ i lt. absurd (omega arith);
-          values = parts_ok;
+          values = parts_blank;
           frames = λ i lt. absurd (omega arith);
           made = omega arith;
           log = omega arith;

@@ -1,5 +1,6 @@
 pub mod Grow
 pub mod Nodes
+pub mod Links
 pub mod Tables
 pub mod Means
 pub mod Sound

@@ -4,6 +4,7 @@ use Rattle.evaluation.specs.Flight.{at}
 use Rattle.evaluation.specs.Flight as byname
 use Rattle.flight.specs.Nodes.{Runner, Runs, no_leg, kind_at, end_at, kid2, kid3, node_does, level_of}
 use Rattle.flight.specs.Tables.{Tables, no_binding, no_frame, size_at}
+pub use Rattle.flight.specs.Links.{PartOk, IsNothing}
 use Rattle.flight.specs.Means.{means, unwind, state_of, value_at, lookup_of, scopes, scope_at, frame_means}
 use Rattle.plan.specs.declared.Node.{Node}
 use Rattle.plan.specs.declared.Node.TheVariants.{Unit as k_unit, Number, Name, Let, Take, Pair, Split, Left, Right, Case, Call, Add, Less}
@@ -60,20 +61,6 @@ pub record BindingOk (ns : List Row) (lv : ℕ → ℕ) (bs : List Binding) (vs 
   pub level : b.level ≡ size_at bs b.parent
   pub low : b.level ≤ i
   pub what : WhatOk ns lv bs vs i b.what
-
-abbrev pub PartOk : ℕ → Part → Type 0
-PartOk i Nothing = Unit {0}
-PartOk i (Num n) = n < 4294967296
-PartOk i (Both u v) = (u < i) × (v < i)
-PartOk i (InLeft u) = u < i
-PartOk i (InRight u) = u < i
-
-abbrev pub IsNothing : Part → Type 0
-IsNothing Nothing = Unit {0}
-IsNothing (Num n) = ⊥
-IsNothing (Both u v) = ⊥
-IsNothing (InLeft u) = ⊥
-IsNothing (InRight u) = ⊥
 
 abbrev pub IsLeft : Part → Type 0
 IsLeft Nothing = ⊥

@@ -1,14 +1,14 @@
 -- The tables of a machine, and what they hold. Assumes nothing.
-use Rattle.std.specs.Prelude.{ℕ, zero, suc, ◌+◌, None, List, [], ◌∷◌, ◌++◌, length, vec_items, slice_index_or}
+use Rattle.std.specs.Prelude.{ℕ, ◌+◌, None, List, [], ◌∷◌, ◌++◌, length, vec_items}
 use Rattle.flight.specs.declared.machine.Part.{Part}
 use Rattle.flight.specs.declared.machine.What.{What}
-use Rattle.flight.specs.declared.machine.What.TheVariants.{Store}
 use Rattle.flight.specs.declared.machine.Binding.{Binding}
 use Rattle.flight.specs.declared.machine.Spot.{Spot}
 use Rattle.flight.specs.declared.machine.Frame.{Frame}
 use Rattle.flight.specs.declared.machine.Entry.{Entry}
 use Rattle.flight.specs.declared.machine.Event.TheVariants.{Made as made_event, Lookup as lookup_event}
 use Rattle.flight.specs.declared.machine.Machine.{Machine}
+pub use Rattle.flight.specs.Links.{no_binding, size_at}
 
 pub record Tables : Type 0 where
   pub frames : List Frame
@@ -33,19 +33,11 @@ Made k b = record { event = made_event; binder = k; binding = b }
 abbrev pub Lookup : ℕ → ℕ → Entry
 Lookup k b = record { event = lookup_event; binder = k; binding = b }
 
-abbrev pub no_binding : Binding
-no_binding = record { binder = 0; level = 0; parent = 0; what = Store }
-
 abbrev pub the_spot : ℕ → ℕ → ℕ → Spot
 the_spot q s d = record { node = q; scope = s; depth = d }
 
 abbrev pub no_frame : Frame
 no_frame = record { spot = the_spot 0 0 0; first = None }
-
--- how many names a scope has
-abbrev pub size_at : List Binding → ℕ → ℕ
-size_at bs zero = 0
-size_at bs (suc i) = suc (slice_index_or bs i no_binding).level
 
 abbrev pub new_binding : List Binding → ℕ → What → ℕ → Binding
 new_binding bs k w p = record { binder = k; level = size_at bs p; parent = p; what = w }

@@ -1,4 +1,5 @@
-ghost use Rattle.std.specs.Prelude.{◌≤◌, vec_capacity};
+ghost use Rattle.std.specs.Prelude.{◌≤◌, vec_items, vec_capacity};
+ghost use Rattle.flight.specs.Links.{Linked};
 
 mod code;
 mod fly;
@@ -114,4 +115,5 @@ pub struct Machine {
     ghost bindings_room: { 4096 ≤ vec_capacity bindings },
     ghost values_room: { 2051 ≤ vec_capacity values },
     ghost log_room: { 4096 ≤ vec_capacity log },
+    ghost linked: { ∥ Linked (vec_items bindings) (vec_items values) (vec_items log) ∥₁ },
 }

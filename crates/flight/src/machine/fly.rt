@@ -1,6 +1,6 @@
 ghost use Rattle.std.specs.Prelude.{◌≡◌, ℕ, ◌+◌, ◌-◌, ◌<◌, ◌≤◌, List, length};
 ghost use Rattle.flight.specs.Tables.{tables};
-ghost use Rattle.flight.specs.Sound.{Ready, Steps, Tabled};
+ghost use Rattle.flight.specs.Sound.{Ready, Steps};
 ghost use Rattle.flight.specs.Fly.{at_end, goes, told, Flies, Moves};
 
 use super::{Code, Control, Ending, Flown, Machine, Outcome, Part, Spot};
@@ -80,7 +80,7 @@ impl Machine {
     }
 
     fn outcome(&self, control: Control) -> Outcome
-        requires { (v : ℕ) → control ≡ Control.Return v → Tabled (tables self.now) × (v < length (tables self.now).values) }
+        requires { (v : ℕ) → control ≡ Control.Return v → v < length (tables self.now).values }
         ensures { result ≡ told (tables self.now) control }
     {
         match control {

@@ -1,5 +1,5 @@
 // The log of a machine.
-ghost use Rattle.std.specs.Prelude.{◌≡◌, ◌≤◌, map, length};
+ghost use Rattle.std.specs.Prelude.{◌≡◌, map, length};
 ghost use Rattle.std.specs.List.{slice_get};
 ghost use Rattle.evaluation.specs.Flight.{lookups};
 ghost use Rattle.flight.specs.Tables.{tables};
@@ -22,7 +22,6 @@ impl Machine {
 
     // How often a binding was looked up.
     pub(crate) fn lookups(&self, binding: u16) -> u16
-        requires { length (tables self.now).log ≤ 4096 }
         ensures { result ≡ lookups binding (map entry_of (tables self.now).log) }
     {
         self.log

@@ -23,11 +23,16 @@ fn preset(values: &mut Vec<Part>)
 impl Machine {
     // A machine with all its memory, which has no flight yet.
     pub(crate) fn new(heap: Global) -> Result<Machine, AllocError> {
+        let frames = Vec::with_capacity(heap, usize::from(MAX_DEPTH))?;
+        let bindings = Vec::with_capacity(heap, MAX_ENTRIES)?;
+        let mut values = Vec::with_capacity(heap, MAX_VALUES)?;
+        let log = Vec::with_capacity(heap, MAX_ENTRIES)?;
+        preset(&mut values);
         Ok(Machine {
-            frames: Vec::with_capacity(heap, usize::from(MAX_DEPTH))?,
-            bindings: Vec::with_capacity(heap, MAX_ENTRIES)?,
-            values: Vec::with_capacity(heap, MAX_VALUES)?,
-            log: Vec::with_capacity(heap, MAX_ENTRIES)?,
+            frames,
+            bindings,
+            values,
+            log,
             begun: 0,
             control: Control::Over(Ending::Long),
         })

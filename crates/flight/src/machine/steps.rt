@@ -1,6 +1,7 @@
 ghost use Rattle.std.specs.Prelude.{◌≡◌, ℕ, ◌+◌, ◌<◌, ◌≤◌, None, IfNone, OnSome, IfSome, List, length, slice_index_or};
+ghost use Rattle.flight.specs.Nodes.{kind_at};
 ghost use Rattle.flight.specs.Tables.{tables, the_spot, size_at, opened, noted, Lookup, valued, pushed};
-ghost use Rattle.flight.specs.Sound.{Poised, Leads, Tabled, Finds, Binds, bind_act, name_act, node_act, frame_act};
+ghost use Rattle.flight.specs.Sound.{PartOk, Poised, Leads, Tabled, Finds, Binds, bind_act, name_act, node_act, frame_act};
 ghost use Rattle.flight.specs.Calling.{Calls, call_act, Waits, wait_act, Given, split_act, Splits, Halves, case_act, CasesOn, join_act, Joins, after_act};
 ghost use Rattle.flight.specs.Means.{value_at};
 ghost use Rattle.evaluation.specs.Flight.{as_number};
@@ -15,13 +16,12 @@ use plan::{Leg, Node, Row};
 impl Spot {
     // Where another node is worked out for this one.
     fn below(self, node: u16, scope: u16) -> Spot
-        requires { self.depth < 65535 }
-        ensures { result ≡ the_spot node scope (self.depth + 1) }
+        ensures { self.depth ≤ 128 → result ≡ the_spot node scope (self.depth + 1) }
     {
         Spot {
             node,
             scope,
-            depth: self.depth + 1,
+            depth: self.depth.saturating_add(1),
         }
     }
 }
@@ -39,7 +39,8 @@ impl Machine {
     }
 
     pub(super) fn value(&mut self, p: Part) -> u16
-        requires { length (tables self.old).values < 2051 }
+        requires room { length (tables self.old).values < 2051 }
+        requires places { PartOk (length (tables self.old).values) p }
         ensures tables { tables self.new ≡ valued p (tables self.old) }
         ensures place { result ≡ length (tables self.old).values }
     {
@@ -57,8 +58,7 @@ impl Machine {
 
     // How many names a scope has.
     fn size(&self, scope: u16) -> u16
-        requires within { scope ≤ length (tables self.now).bindings }
-        requires fits { size_at (tables self.now).bindings scope < 65536 }
+        requires { scope ≤ length (tables self.now).bindings }
         ensures { result ≡ size_at (tables self.now).bindings scope }
     {
         if scope == 0 {
@@ -71,9 +71,7 @@ impl Machine {
     // A new binding on a scope; the answer is the scope with it.
     pub(super) fn open(&mut self, binder: u16, what: What, parent: u16) -> u16
         requires room { length (tables self.old).log < 4096 }
-        requires made { length (tables self.old).bindings ≤ length (tables self.old).log }
         requires within { parent ≤ length (tables self.old).bindings }
-        requires fits { size_at (tables self.old).bindings parent < 65536 }
         ensures tables { tables self.new ≡ opened binder what parent (tables self.old) }
         ensures scope { result ≡ length (tables self.old).bindings + 1 }
     {
@@ -95,8 +93,7 @@ impl Machine {
 
     // The same, unless the log is full.
     fn try_open(&mut self, binder: u16, what: What, parent: u16) -> Option<u16>
-        requires sound { Tabled (tables self.old) }
-        requires within { parent ≤ length (tables self.old).bindings }
+        requires { parent ≤ length (tables self.old).bindings }
         ensures full { IfNone result ((length (tables self.old).log ≡ 4096) × (tables self.new ≡ tables self.old)) }
         ensures room { OnSome result (length (tables self.old).log < 4096) }
         ensures tables { OnSome result (tables self.new ≡ opened binder what parent (tables self.old)) }
@@ -111,10 +108,10 @@ impl Machine {
 
     // The binding that a name at a level means in a scope.
     fn find(&self, scope: u16, level: u16) -> u16
-        requires sound { Tabled (tables self.now) }
         requires within { scope ≤ length (tables self.now).bindings }
         requires named { level < size_at (tables self.now).bindings scope }
-        ensures { Finds (tables self.now) scope level result }
+        ensures there { result < length (tables self.now).bindings }
+        ensures finds { Tabled (tables self.now) → Finds (tables self.now) scope level result }
     {
         let mut at = scope;
         while self.bindings[at as usize - 1].level != level {
@@ -125,10 +122,8 @@ impl Machine {
 
     // A lookup of the name at a level.
     fn look(&mut self, spot: Spot, level: u16) -> Control
-        requires sound { Tabled (tables self.old) }
         requires within { spot.scope ≤ length (tables self.old).bindings }
         requires named { level < size_at (tables self.old).bindings spot.scope }
-        requires deep { spot.depth ≤ 128 }
         ensures { (ns : List Row) (gs : List Leg) → Poised ns gs (tables self.old) spot → Leads ns gs (tables self.old) (name_act (tables self.old) level spot) (tables self.new) result }
     {
         let at = self.find(spot.scope, level);
@@ -151,9 +146,7 @@ impl Machine {
 
     // A binding on the scope, and then the node `body` with it.
     fn bind(&mut self, spot: Spot, binder: u16, what: What, body: u16) -> Control
-        requires sound { Tabled (tables self.old) }
-        requires within { spot.scope ≤ length (tables self.old).bindings }
-        requires deep { spot.depth ≤ 128 }
+        requires { spot.scope ≤ length (tables self.old).bindings }
         ensures { (ns : List Row) (gs : List Leg) → Binds ns gs (tables self.old) what body spot → Leads ns gs (tables self.old) (bind_act (tables self.old) binder what body spot) (tables self.new) result }
     {
         match self.try_open(binder, what, spot.scope) {
@@ -164,8 +157,7 @@ impl Machine {
 
     // Waits for a kid of the node.
     fn wait(&mut self, spot: Spot, first: Option<u16>, kid: u16) -> Control
-        requires room { length (tables self.old).frames < 128 }
-        requires deep { spot.depth ≤ 128 }
+        requires { length (tables self.old).frames < 128 }
         ensures { (ns : List Row) (gs : List Leg) → Waits ns gs (tables self.old) spot first kid → Leads ns gs (tables self.old) (wait_act ns (tables self.old) spot first kid) (tables self.new) result }
     {
         self.push(Frame { spot, first });
@@ -218,8 +210,7 @@ impl Machine {
     }
 
     pub(super) fn number(&self, v: u16) -> u32
-        requires sound { Tabled (tables self.now) }
-        requires there { v < length (tables self.now).values }
+        requires { v < length (tables self.now).values }
         ensures { result ≡ as_number (value_at (tables self.now).values v) }
     {
         match self.part(v) {
@@ -229,8 +220,7 @@ impl Machine {
     }
 
     fn halves(&self, v: u16) -> (u16, u16)
-        requires sound { Tabled (tables self.now) }
-        requires there { v < length (tables self.now).values }
+        requires { v < length (tables self.now).values }
         ensures { Halves (tables self.now) v result.0 result.1 }
     {
         match self.part(v) {
@@ -241,9 +231,7 @@ impl Machine {
 
     // Binds the parts of a pair, and then goes on with the body.
     fn split(&mut self, spot: Spot, binder: u16, parts: (u16, u16), body: u16) -> Control
-        requires sound { Tabled (tables self.old) }
         requires within { spot.scope ≤ length (tables self.old).bindings }
-        requires deep { spot.depth ≤ 128 }
         requires first { parts.0 < length (tables self.old).values }
         requires second { parts.1 < length (tables self.old).values }
         requires fits { binder < 65535 }
@@ -275,14 +263,11 @@ impl Machine {
     }
 
     // Both kids have given their values.
-    fn join(&mut self, kind: Node, u: u16, v: u16) -> Control
-        requires sound { Tabled (tables self.old) }
-        requires one { u < length (tables self.old).values }
-        requires two { v < length (tables self.old).values }
-        requires room { length (tables self.old).values < 2051 }
-        ensures { (ns : List Row) (gs : List Leg) (spot : Spot) → Joins ns gs (tables self.old) u v spot → Leads ns gs (tables self.old) (join_act (tables self.old) kind u v) (tables self.new) result }
+    fn join(&mut self, code: Code, spot: Spot, u: u16, v: u16) -> Control
+        requires { Joins code.nodes.now code.legs.now (tables self.old) u v spot }
+        ensures { Leads code.entry.nodes.now code.entry.legs.now (tables self.old) (join_act (tables self.old) (kind_at code.entry.nodes.now spot.node) u v) (tables self.new) result }
     {
-        match kind {
+        match code.nodes[spot.node as usize].node {
             Node::Pair => Control::Return(self.value(Part::Both(u, v))),
             Node::Add => {
                 let sum = self.number(u).saturating_add(self.number(v));
@@ -332,7 +317,7 @@ impl Machine {
         let spot = frame.spot;
         match frame.first {
             None => self.after(code, spot, v),
-            Some(u) => self.join(code.nodes[spot.node as usize].node, u, v),
+            Some(u) => self.join(code, spot, u, v),
         }
     }
 }

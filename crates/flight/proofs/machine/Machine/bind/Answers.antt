@@ -13,5 +13,5 @@ returns-in-None c ns gs H =
 pub returns-in-Some : goal.returns-in-Some
 returns-in-Some c ns gs H =
     let e = c.in-Some.ensures in
-    leads_at ns gs (tables c.args.self.now) _ _ _ _ _ e.tables (ap Eval (c.below.ensures ∙ ap (λ (i : ℕ). the_spot c.args.body i (c.args.spot.depth + 1)) e.scope))
+    leads_at ns gs (tables c.args.self.now) _ _ _ _ _ e.tables (ap Eval (c.below.ensures H.poised.least ∙ ap (λ (i : ℕ). the_spot c.args.body i (c.args.spot.depth + 1)) e.scope))
     (bind_leads ns gs (tables c.args.self.now) c.args.spot H.poised c.args.binder c.args.what c.args.body e.room H.what H.body)

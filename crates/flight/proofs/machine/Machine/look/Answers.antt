@@ -12,8 +12,8 @@ returns-in-Thunk c ns gs P =
     let len : c.len.result ≡ length t.log = search rules in
     let lt : length t.log < 4096 = omega arith in
     let x : c.index-b.result.now ≡ get_or t.bindings c.find-at.result no_binding = search (rules, get_or_read) in
-    leads_at ns gs t _ _ _ _ _ c.note_lookup.ensures (ap Eval c.below.ensures)
-    (name_later ns gs t c.args.spot P c.args.level c.find-at.result c.index-b.result.now c.find-at.ensures x
+    leads_at ns gs t _ _ _ _ _ c.note_lookup.ensures (ap Eval (c.below.ensures P.least))
+    (name_later ns gs t c.args.spot P c.args.level c.find-at.result c.index-b.result.now (c.find-at.ensures.finds (record { ns = ns; lv = P.lv; sound = P.sound })) x
     c.in-Thunk.kid c.in-Thunk.outer c.in-Thunk.is lt)
 
 pub returns-in-Kept : goal.returns-in-Kept
@@ -24,7 +24,7 @@ returns-in-Kept c ns gs P =
     let lt : length t.log < 4096 = omega arith in
     let x : c.index-b.result.now ≡ get_or t.bindings c.find-at.result no_binding = search (rules, get_or_read) in
     leads_at ns gs t _ _ _ _ _ c.note_lookup-in-Kept.ensures refl
-    (name_kept ns gs t c.args.spot P c.args.level c.find-at.result c.index-b.result.now c.find-at.ensures x
+    (name_kept ns gs t c.args.spot P c.args.level c.find-at.result c.index-b.result.now (c.find-at.ensures.finds (record { ns = ns; lv = P.lv; sound = P.sound })) x
     c.in-Kept.v c.in-Kept.is lt)
 
 pub returns-in-Store : goal.returns-in-Store
@@ -34,5 +34,5 @@ returns-in-Store c ns gs P =
     let len : c.len.result ≡ length t.log = search rules in
     let lt : length t.log < 4096 = omega arith in
     let x : c.index-b.result.now ≡ get_or t.bindings c.find-at.result no_binding = search (rules, get_or_read) in
-    name_store ns gs t c.args.spot P c.args.level c.find-at.result c.index-b.result.now c.find-at.ensures x
+    name_store ns gs t c.args.spot P c.args.level c.find-at.result c.index-b.result.now (c.find-at.ensures.finds (record { ns = ns; lv = P.lv; sound = P.sound })) x
     c.in-Store.is lt
