@@ -29,6 +29,11 @@ pub size_more : (bs : List Binding) (b : Binding) (p : ℕ) → p ≤ length bs 
 size_more bs b zero le = refl
 size_more bs b (suc i) le = ap (λ (x : Binding). suc x.level) (get_or-append bs (b ∷ []) no_binding i (omega arith))
 
+-- a scope has no more names than there are bindings up to it
+pub size_low : (bs : List Binding) → ((i : ℕ) → i < length bs → (get_or bs i no_binding).level ≤ i) → (p : ℕ) → p ≤ length bs → size_at bs p ≤ p
+size_low bs low zero le = omega arith
+size_low bs low (suc i) le = let o = low i (omega arith) in omega arith
+
 module _ (ns : List Row) (lv : ℕ → ℕ) where
   what_more : (bs : List Binding) (b : Binding) (vs ws i : ℕ) (w : What) → i ≤ length bs → vs ≤ ws → WhatOk ns lv bs vs i w
       → WhatOk ns lv (bs ++ (b ∷ [])) ws i w
@@ -67,11 +72,6 @@ module _ (ns : List Row) (lv : ℕ → ℕ) where
         first = o.first;
       }
 
-  -- a scope has no more names than there are bindings up to it
-  pub size_low : (t : Tables) → Sound ns lv t → (p : ℕ) → p ≤ length t.bindings → size_at t.bindings p ≤ p
-  size_low t s zero le = omega arith
-  size_low t s (suc i) le = let o = (s.bindings i (omega arith)).low in omega arith
-
   pub sound_opened : (t : Tables) (k : ℕ) (w : What) (p : ℕ) → Sound ns lv t → length t.log < 4096 → p ≤ length t.bindings
       → WhatOk ns lv t.bindings (length t.values) (length t.bindings) w → Sound ns lv (opened k w p t)
   sound_opened t k w p s lt le ok =
@@ -87,7 +87,7 @@ module _ (ns : List Row) (lv : ℕ → ℕ) where
             (binding_more bs b vs (length bs) b (omega arith) (record {
               older = le;
               level = refl;
-              low = (let z = size_low t s p le in omega arith);
+              low = (let z = size_low bs (λ i h. (s.bindings i h).low) p le in omega arith);
               what = ok;
             }));
         values = s.values;

@@ -6,14 +6,14 @@ use native.Mathlib.Nat.{ℕ_set}
 use native.Mathlib.Bridge.{le_prop}
 use lib.ListN.{get_or-append}
 use Rattle.flight.specs.Tables.{new_binding}
-use Rattle.flight.specs.Links.{no_binding, size_at, PartOk, IsNothing, OnOlder, Linked}
+use Rattle.flight.specs.Links.{no_binding, PartOk, IsNothing, OnOlder, Linked}
 use Rattle.flight.specs.Spelled.{blank}
 use Rattle.flight.specs.declared.machine.Part.{Part}
 use Rattle.flight.specs.declared.machine.Part.TheVariants.{Nothing, Num, Both, InLeft, InRight}
 use Rattle.flight.specs.declared.machine.What.{What}
 use Rattle.flight.specs.declared.machine.Binding.{Binding}
 use Rattle.flight.specs.declared.machine.Entry.{Entry}
-use Rattle.flight.proofs.Keeps.{each_more, size_more}
+use Rattle.flight.proofs.Keeps.{each_more, size_more, size_low}
 
 pub part_prop : (i : ℕ) (p : Part) → IsProp (PartOk i p)
 part_prop i Nothing = Unit-prop
@@ -58,11 +58,6 @@ module _ (bs : List Binding) (vs : List Part) (log : List Entry) where
   linked_of e = ∥∥₁_elim e linked_prop (λ h. h)
 
   module _ (h : Linked bs vs log) where
-    -- a scope has no more names than there are bindings up to it
-    pub size_within : (p : ℕ) → p ≤ length bs → size_at bs p ≤ p
-    size_within zero le = omega arith
-    size_within (suc i) le = let o = (h.bindings i (omega arith)).low in omega arith
-
     pub linked_opened : (k : ℕ) (w : What) (p : ℕ) (e : Entry) → length log < 4096 → p ≤ length bs
         → Linked (bs ++ (new_binding bs k w p ∷ [])) vs (log ++ (e ∷ []))
     linked_opened k w p e lt le =
@@ -81,7 +76,7 @@ module _ (bs : List Binding) (vs : List Part) (log : List Entry) where
               (record {
                 older = le;
                 level = sym (size_more bs b p le);
-                low = (let z = size_within p le in omega arith);
+                low = (let z = size_low bs (λ i lt. (h.bindings i lt).low) p le in omega arith);
               });
           values = h.values;
           some = h.some;

@@ -115,5 +115,6 @@ pub struct Machine {
     ghost bindings_room: { 4096 ≤ vec_capacity bindings },
     ghost values_room: { 2051 ≤ vec_capacity values },
     ghost log_room: { 4096 ≤ vec_capacity log },
+    // What holds of the tables by a plan is in `Ready`, since the machine holds no plan.
     ghost linked: { ∥ Linked (vec_items bindings) (vec_items values) (vec_items log) ∥₁ },
 }

@@ -26,6 +26,7 @@ impl Spot {
     }
 }
 
+// A place is there in one machine and not in another, and the log may be full, so both are asked of a call and kept by no type.
 impl Machine {
     pub(super) fn note_lookup(&mut self, binder: u16, binding: u16)
         requires { length (tables self.old).log < 4096 }
