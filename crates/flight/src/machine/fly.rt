@@ -6,7 +6,6 @@ ghost use Rattle.flight.specs.Fly.{at_end, goes, told, Flies, Moves};
 use super::{Code, Control, Ending, Flown, Machine, Outcome, Part, Spot};
 use crate::limits::{MAX_BEGUN, MAX_DEPTH};
 use bay::Bay;
-use plan::{Leg, Row};
 
 impl Machine {
     // Begins an evaluation, unless a limit stops it.
@@ -36,22 +35,6 @@ impl Machine {
         }
     }
 
-    // Draws from a store, and logs the lookup.
-    fn draw<B: Bay>(&mut self, bay: &mut B, binder: u16, store: u16) -> Control
-        requires store { store < 8 }
-        requires entry { length (tables self.old).log < 4096 }
-        requires value { length (tables self.old).values < 2051 }
-        ensures { (ns : List Row) (gs : List Leg) → Ready ns gs (tables self.old) (Control.Draw binder store) → Steps ns gs (B.readings bay.old) (tables self.old) (Control.Draw binder store) (B.readings bay.new) (tables self.new) result }
-    {
-        match bay.draw(store as u8) {
-            None => Control::Over(Ending::Empty),
-            Some(x) => {
-                self.note_lookup(binder, store);
-                Control::Return(self.value(Part::Num(x)))
-            }
-        }
-    }
-
     // Whether there is a step to make.
     fn going(&self, control: Control, from: u32, n: u32) -> bool
         requires { from ≤ (tables self.now).begun }
@@ -74,7 +57,13 @@ impl Machine {
         match control {
             Control::Eval(spot) => self.begin(code, spot),
             Control::Return(v) => self.give(code, v),
-            Control::Draw(binder, store) => self.draw(bay, binder, store),
+            Control::Draw(binder, store) => match bay.draw(store as u8) {
+                None => Control::Over(Ending::Empty),
+                Some(x) => {
+                    self.note_lookup(binder, store);
+                    Control::Return(self.value(Part::Num(x)))
+                }
+            },
             Control::Over(_) => control,
         }
     }
