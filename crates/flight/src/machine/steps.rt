@@ -26,7 +26,7 @@ impl Spot {
     }
 }
 
-// A place is there in one machine and not in another, and the log may be full, so both are asked of a call and kept by no type.
+// A place may be in the tables of one machine and not in those of another, so a call asks that it is there, and no type keeps it.
 impl Machine {
     pub(super) fn note_lookup(&mut self, binder: u16, binding: u16)
         requires { length (tables self.old).log < 4096 }
