@@ -35,6 +35,7 @@ pub enum What {
 }
 
 // A scope is a place in the table of bindings: 0 has no names, i + 1 has the binding i on top of the scope `parent`.
+// A number and no `Option`, which would make the rows of tables of fixed memory larger.
 #[derive(Clone, Copy)]
 pub struct Binding {
     pub binder: u16,

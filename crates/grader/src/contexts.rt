@@ -30,7 +30,8 @@ impl<'a, G> Model for Contexts<'a, G> {
     ghost invariant = { λ c. c.used ≤ length c.places.now };
 }
 
-// Sets every grade to zero. A scale does not say that its clone never fails, which the library's `fill` asks for.
+// Sets every grade to zero. The library's `fill` asks that a clone never fails, which a scale does not say; a call of
+// `fill_with` got no proof.
 fn clear<G: Scale>(row: &mut [G])
     ensures { row.new ≡ row_zero G.ops (length row.old) }
 {

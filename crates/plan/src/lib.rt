@@ -61,7 +61,8 @@ pub enum Node {
 }
 
 // A node in the table, and the place behind its last kid. Its first kid stands right behind it, each next kid at the end of the one before.
-// A table and no tree of boxes: memory is taken once for all nodes, and none when a plan is flown.
+// A table and no tree of boxes: memory is taken once for all nodes, and none when a plan is flown. Whoever goes over a node's
+// kids moves a place on: an iterator over them would save each a line and need a law of its own.
 #[derive(Clone, Copy, PartialEq, Eq, Debug, Drop)]
 pub struct Row {
     pub node: Node,

@@ -152,6 +152,7 @@ impl World<'_> {
             Node::Name(level) => level_type(scope, level).ok_or(TypeFault::Name(at)),
             Node::Let(_) | Node::Take(_) | Node::Split(_) => Ok(kid(kids, 1)),
             Node::Pair => self.number_of(at, Type::Pair(kid(kids, 0), kid(kids, 1))),
+            // Two arms for the two sides: one would have to ask which it is.
             Node::Left(y) => {
                 let (left, _) = self.either_parts(at, y)?;
                 agree(at, kid(kids, 0), left, y)

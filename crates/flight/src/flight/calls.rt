@@ -120,6 +120,7 @@ impl Flight {
     pub fn count_lookups(&self, counts: &mut [u16])
         ensures { Written (lookups_of self.now) counts.old counts.new 8 }
     {
+        // A test and no `take(8)`, behind which a proof knows nothing of the places.
         for (store, count) in counts.iter_mut().enumerate() {
             if store == usize::from(STORES) {
                 break;
