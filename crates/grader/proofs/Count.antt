@@ -23,7 +23,7 @@ last_ends p ns (g ∷ h ∷ gs) zero e o = absurd (omega arith)
 last_ends p ns (g ∷ h ∷ gs) (suc k) e o = last_ends (p + node_size (term_at ns p)) ns (h ∷ gs) k (omega arith) o.3
 
 module _ (ns : List Row) (gs : List FlatLeg) (k : ℕ) (last : k + 1 ≡ length gs) (s : Spells ns) (o : InOrder 0 ns gs) (r : LegReady ns (take k gs) (get_or gs k no_leg)) where
-  legs_are : turned [] (legs_in ns gs) ≡ leg_in ns (get_or gs k no_leg) ∷ turned [] (legs_in ns (take k gs))
+  pub legs_are : turned [] (legs_in ns gs) ≡ leg_in ns (get_or gs k no_leg) ∷ turned [] (legs_in ns (take k gs))
   legs_are = ap (λ l. turned [] (legs_in ns l)) (sym (take_all (k + 1) gs (omega arith))) ∙ lower_more ns gs k (omega arith)
 
   body_is : nodes_of (drop (get_or gs k no_leg).first ns) ≡ flat (term_at ns (get_or gs k no_leg).first)

@@ -8,3 +8,4 @@ mod Legs
 mod Ready
 mod Count
 mod Given
+mod Params

@@ -5,4 +5,5 @@ pub mod contexts;
 pub mod faults;
 pub mod grades;
 pub mod rules;
+pub mod stores;
 pub mod walk;
