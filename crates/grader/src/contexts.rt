@@ -18,7 +18,8 @@ pub struct Contexts<'a, G> {
     used: usize,
 }
 
-// Clauses see the grades on the stack, and those in the places above it.
+// Clauses see the grades on the stack, and those in the places above it. That both together stay as many is said by each
+// method: it speaks of before and after, and no type keeps that.
 impl<'a, G> Model for Contexts<'a, G> {
     ghost use Rattle.std.specs.Prelude.{◌≤◌, length, take, drop};
     ghost use Rattle.grader.specs.Stack.{Stack};

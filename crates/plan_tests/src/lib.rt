@@ -3,8 +3,12 @@
 
 #[cfg(test)]
 mod tests {
+    use grader::grades::WORK_PLACES;
+    use grader::stores::{ceilings, store_places};
     use listing::table::make::list_plan;
     use refusal::Refusal;
+    use scales::scale::{Ceiling, Scale};
+    use scales::span::Span;
     use std::alloc::Global;
     use std::process::Abort;
     use std::test::Fail;
@@ -51,6 +55,26 @@ mod tests {
             text.as_str(),
             "plan\n0 param many 2..2 {2}\n1 let many 2..2 {2}\n"
         );
+        Ok(())
+    }
+
+    #[test]
+    fn ceilings_of_the_worked_plan(rt: HostRuntime) -> Result<(), Fail> {
+        let heap = rt.alloc();
+        let mut work = vec![in heap; Span::zero(); WORK_PLACES]?;
+        let mut answers = vec![in heap; Span::zero(); 2]?;
+        let Ok(asked) = ceilings(heap, &DOUBLE, work.as_mut_slice(), answers.as_mut_slice()) else {
+            return Err(Fail::new("refused"));
+        };
+        assert_eq!(rt; asked[0], Ceiling::Count(2));
+        assert_eq!(rt; asked[1], Ceiling::Count(0));
+        assert_eq!(rt; asked[7], Ceiling::Count(0));
+        let Ok(places) = store_places(heap, &DOUBLE, work.as_mut_slice(), answers.as_mut_slice())
+        else {
+            return Err(Fail::new("refused"));
+        };
+        assert_eq!(rt; places.start, 0);
+        assert_eq!(rt; places.end, 1);
         Ok(())
     }
 

@@ -25,7 +25,7 @@ fn column<S: Scale>(heap: Global, bytes: &[u8], count: usize) -> Result<Vec<S>, 
     Ok(answers)
 }
 
-// The lines of binders that come in the order of their numbers.
+// The lines of binders that come in the order of their numbers. Each column is a run of its own over the plan: they meet here.
 fn lines_of(
     heap: Global,
     kinds: &[BinderKind],
