@@ -11,7 +11,7 @@ use Rattle.plan.specs.Plans.{legs_in}
 use Rattle.typer.specs.Levels.{leg_levels}
 
 abbrev pub no_leg : Leg
-no_leg = record { params = record { items = [] }; result = the_type 0; first = 0; binder = the_binder 0 }
+no_leg = record { params = record { items = []; spare = [] }; result = the_type 0; first = 0; binder = the_binder 0 }
 
 -- under how many names each node stands
 abbrev pub level_of : List Row → List Leg → ℕ → ℕ

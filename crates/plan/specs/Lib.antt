@@ -4,4 +4,5 @@ pub mod Kinds
 pub mod Trees
 pub mod Written
 pub mod Table
+pub mod Params
 pub mod Plans

@@ -1,12 +1,12 @@
 // Plans: their types, nodes and legs, as a table of nodes in prefix order; the trees that it stands for and the bytes that spell it; and why bytes are refused.
 #![tactic(auto)]
 
-use crate::limits::MAX_PARAMS;
-use arrayvec::ArrayVec;
-
 pub mod faults;
 pub mod kinds;
 pub mod limits;
+pub mod params;
+
+pub use params::Params;
 
 // The number of a type: 0 is unit, 1 number, 2 either(unit, unit), the plan's own follow from 3.
 #[derive(Clone, Copy, PartialEq, Eq, Default, Debug, Drop)]
@@ -70,9 +70,9 @@ pub struct Row {
 }
 
 // A leg: the types of its parameters and result, the place of its body, and the binder of its first parameter.
-#[derive(PartialEq, Eq, Debug, Drop)]
+#[derive(Clone, Copy, PartialEq, Eq, Debug, Drop)]
 pub struct Leg {
-    pub params: ArrayVec<TypeId, MAX_PARAMS>,
+    pub params: Params,
     pub result: TypeId,
     pub first: u16,
     pub binder: Binder,

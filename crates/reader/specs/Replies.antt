@@ -8,9 +8,8 @@ use Rattle.plan.specs.declared.Plan.{Plan as FlatPlan}
 use Rattle.plan.specs.declared.Leg.{Leg as FlatLeg}
 use Rattle.plan.specs.declared.Row.{Row}
 use Rattle.plan.specs.declared.Node.{Node}
-use Rattle.plan.specs.declared.TypeId.{TypeId}
 use Rattle.plan.specs.declared.kinds.NodeKind.{NodeKind}
-use Rattle.arrayvec.specs.ArrayVec.{ArrayVec}
+use Rattle.plan.specs.Params.{Params}
 use Rattle.plan.specs.declared.Type.{«Type» as Shape}
 use Rattle.reader.specs.declared.input.Input.{Input}
 use Rattle.reader.specs.declared.draft.Draft.{Draft}
@@ -76,7 +75,7 @@ abbrev pub TypesRead : (ℕ → List ℕ → Got (List Shape)) → Draft → Dra
 TypesRead P d e before after (Ok u) = (es : List Shape) × (vec_items e.types ≡ built_in ++ es) × (P before.all before.rest.now ≡ Ok (es, after.rest.now)) × (after.all ≡ before.all) × OnlyTypes d e
 TypesRead P d e before after (Err f) = P before.all before.rest.now ≡ Err f
 
-abbrev pub ParamsRead : ℕ → Input → Input → Result (ArrayVec TypeId) ReadFault → Type 0
+abbrev pub ParamsRead : ℕ → Input → Input → Result Params ReadFault → Type 0
 ParamsRead types before after (Ok ps) = (read_params before.all types before.rest.now ≡ Ok (ps.items, after.rest.now)) × (after.all ≡ before.all) × (length ps.items ≤ 8)
 ParamsRead types before after (Err e) = read_params before.all types before.rest.now ≡ Err e
 

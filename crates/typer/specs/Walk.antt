@@ -22,7 +22,7 @@ abbrev pub kid_at : List TypeId → ℕ → TypeId
 kid_at us k = slice_index_or us k unit_type
 
 abbrev pub no_leg : FlatLeg
-no_leg = record { params = record { items = [] }; result = unit_type; first = 0; binder = the_binder 0 }
+no_leg = record { params = record { items = []; spare = [] }; result = unit_type; first = 0; binder = the_binder 0 }
 
 abbrev pub sigs_of : List FlatLeg → List Sig
 sigs_of [] = []

@@ -9,13 +9,10 @@ use crate::table::close;
 use arrayvec::ArrayVec;
 use plan::faults::ReadFault;
 use plan::limits::{MAX_LEGS, MAX_PARAMS};
-use plan::{Binder, Leg, Row, TypeId};
+use plan::{Binder, Leg, Params, Row};
 
 // A count of parameters and their types.
-fn read_params(
-    input: &mut Input<'_>,
-    types: usize,
-) -> Result<ArrayVec<TypeId, MAX_PARAMS>, ReadFault>
+fn read_params(input: &mut Input<'_>, types: usize) -> Result<Params, ReadFault>
     ensures { ParamsRead types input.old input.new result }
 {
     let count = input.count(0, MAX_PARAMS)?;
@@ -24,7 +21,7 @@ fn read_params(
         let param = input.type_id(types)?;
         params.push(param);
     }
-    Ok(params)
+    Ok(Params::from(params))
 }
 
 // Writes the ends of the nodes from `first` on; whether they are one expression.
