@@ -10,23 +10,22 @@ use std::fmt;
 pub const TOP: u16 = 9_999;
 
 // A count that would pass it is infinite.
-fn at_end(n: u16) -> Ceiling
+fn at_end(n: u32) -> Ceiling
     ensures { result ≡ capped n }
 {
-    if n <= TOP {
-        Ceiling::Count(n)
+    if n <= u32::from(TOP) {
+        Ceiling::Count(n as u16)
     } else {
         Ceiling::Unbounded
     }
 }
 
-// What passes a u16 passes the top too, so it may stop there.
 impl Ceiling {
     pub(crate) fn plus(self, other: Ceiling) -> Ceiling
         ensures { result ≡ end_plus self other }
     {
         match (self, other) {
-            (Ceiling::Count(m), Ceiling::Count(n)) => at_end(m.saturating_add(n)),
+            (Ceiling::Count(m), Ceiling::Count(n)) => at_end(u32::from(m) + u32::from(n)),
             _ => Ceiling::Unbounded,
         }
     }
@@ -35,7 +34,7 @@ impl Ceiling {
         ensures { result ≡ end_times self other }
     {
         match (self, other) {
-            (Ceiling::Count(m), Ceiling::Count(n)) => at_end(m.saturating_mul(n)),
+            (Ceiling::Count(m), Ceiling::Count(n)) => at_end(u32::from(m) * u32::from(n)),
             (Ceiling::Count(0), _) | (_, Ceiling::Count(0)) => Ceiling::Count(0),
             _ => Ceiling::Unbounded,
         }
