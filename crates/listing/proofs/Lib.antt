@@ -1,3 +1,3 @@
 mod Listed
-mod Lines
+mod Texts
 mod Columns

@@ -1,21 +1,18 @@
 -- What is listed of a plan, and how a listing prints. Assumes nothing.
-use Rattle.std.specs.Prelude.{◌≡◌, ℕ, List, ◌++◌, Ok, Err, map, vec_items, vec_len, codes, decimal, Result, Vec, ◌≢◌}
-use Rattle.std.specs.List.{flat_map}
+use Rattle.std.specs.Prelude.{◌≡◌, ℕ, zero, suc, List, [], ◌++◌, Ok, Err, vec_items, vec_len, codes, decimal, Result, Vec, ◌≢◌, slice_index_or}
 use Rattle.scales.specs.Laws.{Ops}
 use Rattle.scales.specs.Tally.{tally_ops}
-use Rattle.scales.specs.Span.{span_ops}
-use Rattle.scales.specs.Set.{set_ops}
+use Rattle.scales.specs.Span.{span_ops, span_zero}
+use Rattle.scales.specs.Set.{set_ops, set_zero}
 use Rattle.scales.specs.Text.{tally_text, span_text, set_text}
-use Rattle.scales.specs.declared.tally.Tally.{Tally}
-use Rattle.scales.specs.declared.span.Span.{Span}
-use Rattle.scales.specs.declared.set.Set.{Set}
+use Rattle.scales.specs.declared.tally.Tally.TheVariants.{Zero}
 use Rattle.plan.specs.declared.faults.PlanFault.TheVariants.{Read, Typing, Memory}
 use Rattle.plan.specs.Trees.{Plan}
 use Rattle.typer.specs.Accepted.{typed}
 use Rattle.grading.specs.Least.{least, binder_count}
 use Rattle.grader.specs.declared.faults.GradeFault.{GradeFault}
 use Rattle.grader.specs.declared.faults.GradeFault.TheVariants.{Short, Plan as OfPlan}
-use Rattle.listing.specs.declared.BinderKind.{BinderKind}
+use Rattle.listing.specs.declared.BinderKind.TheVariants.{Param}
 use Rattle.listing.specs.declared.table.Listing.{Listing}
 use Rattle.listing.specs.declared.table.Line.{Line}
 use Rattle.listing.specs.Names.{kind_name}
@@ -23,10 +20,10 @@ use Rattle.listing.specs.Binders.{binder_kinds}
 
 -- The kinds and the least grades of the plan's binders.
 pub record Lists (p : Plan) (l : Listing) : Type 0 where
-  pub kinds : map (λ x. x.kind) (vec_items l.lines) ≡ binder_kinds p
-  pub tallies : map (λ x. x.tally) (vec_items l.lines) ≡ least tally_ops p
-  pub spans : map (λ x. x.span) (vec_items l.lines) ≡ least span_ops p
-  pub sets : map (λ x. x.set) (vec_items l.lines) ≡ least set_ops p
+  pub kinds : vec_items l.kinds ≡ binder_kinds p
+  pub tallies : vec_items l.tallies ≡ least tally_ops p
+  pub spans : vec_items l.spans ≡ least span_ops p
+  pub sets : vec_items l.sets ≡ least set_ops p
 
 -- The listing of the plan of the bytes, or the reader's first fault, or else the typer's. Want of memory says nothing about the bytes.
 abbrev pub ListingAnswer : List ℕ → Result Listing GradeFault → Type 0
@@ -48,15 +45,25 @@ abbrev pub ColumnAnswer : {G Z : Type 0} → Ops G → List ℕ → ℕ → Resu
 ColumnAnswer o bs n (Ok v) = (vec_len v ≡ n) × ((p : Plan) → typed bs ≡ Ok p → binder_count p ≡ n → vec_items v ≡ least o p)
 ColumnAnswer o bs n (Err e) = ColumnRefused bs n e
 
--- A line, from its binder and the binder's kind and grades.
-abbrev pub line_of : ℕ × (((BinderKind × Tally) × Span) × Set) → Line
-line_of x = record { binder = x.0; kind = x.1.0.0.0; tally = x.1.0.0.1; span = x.1.0.1; set = x.1.1 }
+-- The line of the binder k.
+abbrev pub line_at : Listing → ℕ → Line
+line_at l k = record {
+  binder = k;
+  kind = slice_index_or (vec_items l.kinds) k Param;
+  tally = slice_index_or (vec_items l.tallies) k Zero;
+  span = slice_index_or (vec_items l.spans) k span_zero;
+  set = slice_index_or (vec_items l.sets) k set_zero;
+}
 
 -- A binder's number, kind, tally, span and set, with a blank between them, and the end of the line.
 abbrev pub line_text : Line → List ℕ
 line_text l =
     decimal l.binder ++ (codes " " ++ (kind_name l.kind ++ (codes " " ++ (tally_text l.tally ++ (codes " " ++ (span_text l.span ++ (codes " " ++ (set_text l.set ++ codes "\n"))))))))
 
--- The lines, which come in the order of their binders.
+-- the lines of the binders below n
+unfoldable pub lines_text : Listing → ℕ → List ℕ
+lines_text l zero = []
+lines_text l (suc n) = lines_text l n ++ line_text (line_at l n)
+
 abbrev pub listing_text : Listing → List ℕ
-listing_text l = codes "plan\n" ++ flat_map line_text (vec_items l.lines)
+listing_text l = codes "plan\n" ++ lines_text l (vec_len l.kinds)

@@ -1,6 +1,5 @@
 // A plan's binders by their numbers: what binds each, and its least grade under three scales.
-ghost use Rattle.std.specs.Prelude.{◌≡◌, length, map};
-ghost use Rattle.std.specs.List.{range_with_len};
+ghost use Rattle.std.specs.Prelude.{◌≡◌, vec_len};
 
 use crate::BinderKind;
 use scales::set::Set;
@@ -10,6 +9,18 @@ use scales::tally::Tally;
 pub mod make;
 pub mod text;
 
+// Four columns and no vector of lines: the lines are made as they are printed, and printing takes no memory.
+#[derive(Drop)]
+pub struct Listing {
+    kinds: Vec<BinderKind>,
+    tallies: Vec<Tally>,
+    spans: Vec<Span>,
+    sets: Vec<Set>,
+    ghost tallied: { vec_len tallies ≡ vec_len kinds },
+    ghost spanned: { vec_len spans ≡ vec_len kinds },
+    ghost counted: { vec_len sets ≡ vec_len kinds },
+}
+
 // What is printed of one binder.
 #[derive(Clone, Copy, Drop)]
 pub struct Line {
@@ -18,10 +29,4 @@ pub struct Line {
     pub tally: Tally,
     pub span: Span,
     pub set: Set,
-}
-
-#[derive(Drop)]
-pub struct Listing {
-    lines: Vec<Line>,
-    ghost numbered: { map (λ x. x.binder) lines.items ≡ range_with_len 0 (length lines.items) },
 }

@@ -1,9 +1,11 @@
 // The listing of a plan, from its bytes.
-ghost use Rattle.std.specs.Prelude.{◌≡◌, IfOk, map};
-ghost use Rattle.std.specs.List.{enumerate_from, zip};
-ghost use Rattle.listing.specs.Listings.{ColumnAnswer, ListingAnswer, line_of};
+ghost use Rattle.std.specs.Prelude.{◌≡◌, IfOk, Ok};
+ghost use Rattle.plan.specs.Trees.{Plan};
+ghost use Rattle.typer.specs.Accepted.{typed};
+ghost use Rattle.listing.specs.Binders.{binder_kinds};
+ghost use Rattle.listing.specs.Listings.{ColumnAnswer, ListingAnswer};
 
-use super::{Line, Listing};
+use super::Listing;
 use crate::BinderKind;
 use crate::binders::binder_kinds;
 use grader::faults::GradeFault;
@@ -25,41 +27,36 @@ fn column<S: Scale>(heap: Global, bytes: &[u8], count: usize) -> Result<Vec<S>, 
     Ok(answers)
 }
 
-// The lines of binders that come in the order of their numbers. Each column is a run of its own over the plan: they meet here.
-fn lines_of(
-    heap: Global,
-    kinds: &[BinderKind],
-    tallies: &[Tally],
-    spans: &[Span],
-    sets: &[Set],
-) -> Result<Vec<Line>, AllocError>
-    ensures { IfOk result (λ v. v.items ≡ map line_of (enumerate_from 0 (zip (zip (zip kinds.now tallies.now) spans.now) sets.now))) }
+// The listing of the plan of the bytes, which has these kinds of binders.
+fn graded(heap: Global, bytes: &[u8], kinds: Vec<BinderKind>) -> Result<Listing, GradeFault>
+    ensures { (p : Plan) → typed bytes.now ≡ Ok p → kinds.items ≡ binder_kinds p → ListingAnswer bytes.now result }
 {
-    kinds
-        .iter()
-        .zip(tallies)
-        .zip(spans)
-        .zip(sets)
-        .enumerate()
-        .map(|(k, (((kind, tally), span), set))| Line {
-            binder: k,
-            kind: *kind,
-            tally: *tally,
-            span: *span,
-            set: *set,
-        })
-        .collect(heap)
+    let tallies = column::<Tally>(heap, bytes, kinds.len())?;
+    let spans = column::<Span>(heap, bytes, kinds.len())?;
+    let sets = column::<Set>(heap, bytes, kinds.len())?;
+    Ok(Listing {
+        kinds,
+        tallies,
+        spans,
+        sets,
+    })
+}
+
+// The listing of the plan of the bytes, or why they give none; apart from these, that there was no room for the kinds, which ends a program.
+pub(crate) fn listed(heap: Global, bytes: &[u8]) -> Result<Result<Listing, GradeFault>, AllocError>
+    ensures { IfOk result (λ answer. ListingAnswer bytes.now answer) }
+{
+    let typed = match read_typed(heap, bytes) {
+        Ok(typed) => typed,
+        Err(fault) => return Ok(Err(GradeFault::from(fault))),
+    };
+    let kinds = binder_kinds(heap, &typed.plan)?;
+    Ok(graded(heap, bytes, kinds))
 }
 
 // The plan's binders with their kinds and their least grades, or why the bytes give no plan.
 pub fn list_plan(heap: Global, bytes: &[u8]) -> Result<Listing, GradeFault>
     ensures { ListingAnswer bytes.now result }
 {
-    let typed = read_typed(heap, bytes)?;
-    let kinds = binder_kinds(heap, &typed.plan)?;
-    let tallies = column::<Tally>(heap, bytes, kinds.len())?;
-    let spans = column::<Span>(heap, bytes, kinds.len())?;
-    let sets = column::<Set>(heap, bytes, kinds.len())?;
-    let lines = lines_of(heap, &kinds, &tallies, &spans, &sets)?;
-    Ok(Listing { lines })
+    listed(heap, bytes)?
 }
