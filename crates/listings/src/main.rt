@@ -22,15 +22,17 @@ fn main(rt: HostRuntime) -> io::Result<()> {
     let heap = rt.alloc();
     let mut input = Vec::new(heap);
     rt.stdin().read_to_end(&mut input)?;
+    // One list for all cases: a case no longer than one before it takes no memory to be read.
+    let mut bytes: Vec<u8> = Vec::new(heap);
     for line in input.split_inclusive(|b| *b == b'\n') {
         let Some(digits) = line.strip_suffix(b"\n") else {
             break;
         };
         let (pairs, _) = digits.as_chunks::<2>();
-        let bytes: Vec<u8> = pairs
-            .iter()
-            .map(|[high, low]| digit(*high) * 16 + digit(*low))
-            .collect(heap)?;
+        bytes.clear();
+        for [high, low] in pairs {
+            bytes.push(digit(*high) * 16 + digit(*low))?;
+        }
         print_listing(&rt, heap, &bytes)?;
         println!(rt; ".")?;
     }
