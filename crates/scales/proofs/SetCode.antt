@@ -1,7 +1,7 @@
 -- What the code on masks does, by members.
 use Rattle.std.proofs.Common.{◌≡◌, ◌&&◌, ℕ, zero, suc, ◌+◌, ◌-◌, ◌*◌, ◌/◌, ◌%◌, ◌^◌, ◌<◌, ◌≤◌, min, true, false, eqb, List, length, get_or, sym, refl, ap, ◌∙◌, subst, inl, inr, add-one, one-add, arith}
 use lib.Bits.{bit_and, bit_or, or_lt, and_lt, and_mask}
-use lib.Pow.{pow-lt}
+use lib.Pow.{pow-lt, pow_mono}
 use Rattle.std.proofs.lemmas.Nat.{shr-shr, and_le_r}
 use Rattle.std.proofs.lemmas.Bool.{eq-eqb, eqb-true, and_parts, and_from, or_cases, or_left, or_right, cases_lt, cases_eq, cases_Bool, cond_both, both_ways, cond-true}
 use Rattle.scales.specs.Masks.{bit, any, gather, bit_pos, some_bit, sum, repeated, is_product, product, after, is_after, union_after, union_lt, union_of, union_has, bit_lt, sum_lt, sum_of, sum_has}
@@ -195,8 +195,11 @@ highest_at m (suc n) j l p h =
     ]
 
 -- 2 ^ j is the highest power in m
-pub highest_is : (m j : ℕ) → 2 ^ j ≤ m → m < 2 * 2 ^ j → j < 16 → highest m 16 ≡ j
-highest_is m j l h b = highest_at m 16 j b (top_bit j m l (omega arith)) (omega arith)
+pub highest_is : (m j : ℕ) → m < 65536 → 2 ^ j ≤ m → m < 2 * 2 ^ j → highest m 16 ≡ j
+highest_is m j w l h = highest_at m 16 j below (top_bit j m l (omega arith)) (omega arith)
+  where
+    below : j < 16
+    below = elim (cases_lt j 16) [ inl b ↦ b | inr c ↦ absurd (let e : 2 ^ 16 ≤ 2 ^ j = pow_mono c in omega arith) ]
 
 -- ---- members
 

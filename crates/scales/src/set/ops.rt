@@ -127,9 +127,10 @@ impl Scale for Set {
         }
     }
 
+    // In 32 bits, where `ilog2` takes less.
     #[tactic(auto, using(crate::proofs::SetCode::highest_is))]
     fn ceiling(self) -> Ceiling {
-        let top = self.mask.ilog2() as u16;
+        let top = u32::from(self.mask).ilog2() as u16;
         if top < TOP {
             Ceiling::Count(top)
         } else {
