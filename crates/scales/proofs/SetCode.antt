@@ -194,7 +194,7 @@ highest_at m (suc n) j l p h =
       | inr d ↦ cond_both (bit m n) n (highest m n) (λ y. y ≡ j) (λ e. absurd (let b = bit_lt (suc j) m n h e in omega arith)) (λ e. highest_at m n j (omega arith) p h)
     ]
 
--- 2 ^ j is the highest power in m
+-- 2 ^ j is the highest power in the mask m
 pub highest_is : (m j : ℕ) → m < 65536 → 2 ^ j ≤ m → m < 2 * 2 ^ j → highest m 16 ≡ j
 highest_is m j w l h = highest_at m 16 j below (top_bit j m l (omega arith)) (omega arith)
   where

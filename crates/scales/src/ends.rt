@@ -40,7 +40,7 @@ impl Ceiling {
         }
     }
 
-    // By cases, as `lower` is: with the derived `max` and `min` joins and ceilings took up to three times as long.
+    // By cases, as in `lower`: with the derived `max`, `min` or `<=` most joins of spans and ceilings of pairs take longer.
     pub(crate) fn higher(self, other: Ceiling) -> Ceiling
         ensures { result ≡ end_max self other }
     {

@@ -127,7 +127,7 @@ impl Scale for Set {
         }
     }
 
-    // In 32 bits, where `ilog2` takes less.
+    // In 32 bits: there `ilog2` takes fewer steps than in 16.
     #[tactic(auto, using(crate::proofs::SetCode::highest_is))]
     fn ceiling(self) -> Ceiling {
         let top = u32::from(self.mask).ilog2() as u16;
